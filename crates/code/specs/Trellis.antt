@@ -1,0 +1,54 @@
+-- The trellis of the code: states, steps and walks.
+-- A state is the last v inputs, the latest as bit 0. A walk is its first state, its length and its input number, whose bit 0 is the first input.
+-- `proofs/Steps.antt` proves that a word's weight (by cyclic products, `Weight.antt`) is what its walk weighs.
+-- Assumes nothing.
+use Prim.Native.Nat.{ℕ, zero, suc, _+_, _-_, _*_, _/_, _%_, _^_}
+use mathlib.Core.Bool.{Bool, true, false, _&&_}
+use mathlib.Core.List.{List, [], _∷_}
+use lib.Bits.{bitAnd}
+use lib.Count.{ones}
+use lib.Dec.{ltb, eqb}
+use Rattle.lists.specs.Lists.{sum}
+use Rattle.poly.specs.Poly.{bit}
+
+-- the number whose bit j is f j, for j below k
+unfoldable pub fromBits : ℕ → (ℕ → ℕ) → ℕ
+fromBits zero f = 0
+fromBits (suc k) f = f 0 + 2 * fromBits k (λ j. f (suc j))
+
+-- the bit of a word of N bits at place i, places taken modulo N
+unfoldable pub place : ℕ → ℕ → ℕ → ℕ
+place N u i = bit (i % N) u
+
+-- The state before step t: its bit j is the word's bit at place t - 1 - j. (N is added so that the place is no negative number: v is at most N.)
+unfoldable pub stateAt : ℕ → ℕ → ℕ → ℕ → ℕ
+stateAt v N u t = fromBits v (λ j. place N u (t + N - suc j))
+
+-- input b leads from state s to this state
+unfoldable pub next : ℕ → ℕ → ℕ → ℕ
+next v s b = (2 * s + b) % 2 ^ v
+
+-- what generator g sends in a step from state s with input b: bit j of 2s + b is the input j steps ago
+unfoldable pub stepOutput : ℕ → ℕ → ℕ → ℕ
+stepOutput g s b = ones (bitAnd g (2 * s + b)) % 2
+
+-- the ones that all generators send in that step
+unfoldable pub stepWeight : List ℕ → ℕ → ℕ → ℕ
+stepWeight [] s b = 0
+stepWeight (g ∷ gs) s b = stepOutput g s b + stepWeight gs s b
+
+-- the state after l steps from s with input number c
+unfoldable pub walk : ℕ → ℕ → ℕ → ℕ → ℕ
+walk v zero s c = s
+walk v (suc l) s c = walk v l (next v s (c % 2)) (c / 2)
+
+-- what those l steps weigh
+unfoldable pub walkWeight : List ℕ → ℕ → ℕ → ℕ → ℕ → ℕ
+walkWeight gs v zero s c = 0
+walkWeight gs v (suc l) s c = stepWeight gs s (c % 2) + walkWeight gs v l (next v s (c % 2)) (c / 2)
+
+-- the walk of l steps from s ends at i, and every state in between is greater than i
+unfoldable pub firstMeets : ℕ → ℕ → ℕ → ℕ → ℕ → Bool
+firstMeets v i zero s c = false
+firstMeets v i (suc zero) s c = eqb (next v s (c % 2)) i
+firstMeets v i (suc (suc l)) s c = ltb i (next v s (c % 2)) && firstMeets v i (suc l) (next v s (c % 2)) (c / 2)

@@ -1,0 +1,72 @@
+-- An order: a code, a word length, the degree of the check polynomial to be found, and a threshold on weights. Its record of bytes, read in
+-- document 01's order of questions 1 to 9.
+-- Assumes nothing.
+use Prim.Native.Nat.{ℕ, zero, suc, _+_, _-_, _*_, _/_, _%_}
+use mathlib.Core.Bool.{_&&_}
+use mathlib.Core.List.{List, [], _∷_, _++_, map, flatMap}
+use lib.Dec.{leb, eqb}
+use lib.ListN.{length, getD}
+use Rattle.lists.specs.Lists.{upFrom}
+use Rattle.order.specs.Questions.{Question, firstNo, from-to, memory, wordLength, checkDegree, threshold, generatorRange, generatorEnds}
+
+pub record Order : Type 0 where
+  -- v: how many earlier inputs the encoder remembers
+  pub v : ℕ
+  -- N: the bits of a word
+  pub N : ℕ
+  -- m: the degree of the check polynomial
+  pub m : ℕ
+  -- d: paths of weight below d are listed
+  pub d : ℕ
+  -- n of them, the first first
+  pub generators : List ℕ
+
+-- ---- the record: the length of what follows in 2 bytes, version 1, n, v, N, m, d, then n generators of 2 bytes each, all big-endian
+
+-- two bytes at i, the higher first
+unfoldable pub be16 : List ℕ → ℕ → ℕ
+be16 bytes i = getD bytes i 0 * 256 + getD bytes (i + 1) 0
+
+-- n generators from byte 8 on
+unfoldable pub readGenerators : List ℕ → ℕ → List ℕ
+readGenerators bytes n = map (λ k. be16 bytes (8 + 2 * k)) (upFrom 0 n)
+
+-- the order that the bytes give, whether or not they pass the questions
+unfoldable pub readFields : List ℕ → Order
+readFields bytes =
+    record { v = getD bytes 4 0; N = getD bytes 5 0; m = getD bytes 6 0; d = getD bytes 7 0; generators = readGenerators bytes (getD bytes 3 0) }
+
+-- questions 1 to 3, which are about the record itself
+unfoldable pub recordQuestions : List ℕ → List Question
+recordQuestions bytes =
+    (1, leb 2 (length bytes) && eqb (be16 bytes 0) (length bytes - 2))
+    ∷ (2, leb 3 (length bytes) && eqb (getD bytes 2 0) 1)
+    ∷ (3, leb 4 (length bytes) && from-to 2 4 (getD bytes 3 0) && eqb (be16 bytes 0) (6 + 2 * getD bytes 3 0))
+    ∷ []
+
+-- questions 4 to 9
+unfoldable pub orderQuestions : Order → List Question
+orderQuestions o =
+    memory (o .v) ∷ wordLength (o .v) (o .N) ∷ checkDegree (o .N) (o .m) ∷ threshold (o .d)
+    ∷ generatorRange (o .v) (o .generators) ∷ generatorEnds (o .v) (o .generators) ∷ []
+
+-- what reading a record gives: an order, or the number of the first question that says no
+pub data Reading : Type 0 where
+  order : Order → Reading
+  refused : ℕ → Reading
+
+unfoldable pub reading : Order → ℕ → Reading
+reading o zero = order o
+reading o (suc k) = refused (suc k)
+
+unfoldable pub read : List ℕ → Reading
+read bytes = reading (readFields bytes) (firstNo (recordQuestions bytes ++ orderQuestions (readFields bytes)))
+
+-- ---- the other way: the record of an order
+
+unfoldable pub bytes16 : ℕ → List ℕ
+bytes16 x = x / 256 ∷ x % 256 ∷ []
+
+unfoldable pub write : Order → List ℕ
+write o =
+    bytes16 (6 + 2 * length (o .generators)) ++ (1 ∷ length (o .generators) ∷ o .v ∷ o .N ∷ o .m ∷ o .d ∷ flatMap bytes16 (o .generators))

@@ -1,0 +1,61 @@
+-- Document 01's questions 3 to 12, each as a test, and the number of the first that says no. Questions 1 and 2 are about the bytes of a record
+-- (`Order.antt`); 13 to 15 are asked once events, paths and candidates have been counted (`search`).
+-- A call asks the questions about the values that it takes, in their order.
+-- Assumes nothing.
+use Prim.Native.Nat.{ℕ, zero, suc, _+_, _-_, _*_, _/_, _%_, _^_}
+use mathlib.Core.Bool.{Bool, cond, _&&_}
+use mathlib.Core.List.{List, [], _∷_}
+use lib.Dec.{leb, ltb, eqb}
+use Rattle.lists.specs.Lists.{all, any}
+use Rattle.poly.specs.Poly.{bit}
+
+-- a question: its number, and whether the answer is yes
+abbrev pub Question : Type 0
+Question = ℕ × Bool
+
+-- the number of the first question that says no; 0 where none does
+unfoldable pub firstNo : List Question → ℕ
+firstNo [] = 0
+firstNo (q ∷ qs) = let rest = firstNo qs in cond (q .1) rest (q .0)
+
+unfoldable pub from-to : ℕ → ℕ → ℕ → Bool
+from-to low high x = leb low x && leb x high
+
+abbrev pub generatorCount : ℕ → Question
+generatorCount n = (3, from-to 2 4 n)
+
+abbrev pub memory : ℕ → Question
+memory v = (4, from-to 1 8 v)
+
+-- `least` is v, or 1 where a call takes no v
+abbrev pub wordLength : ℕ → ℕ → Question
+wordLength least N = (5, from-to least 128 N)
+
+abbrev pub checkDegree : ℕ → ℕ → Question
+checkDegree N m = (6, from-to 1 12 m && ltb m N)
+
+abbrev pub threshold : ℕ → Question
+threshold d = (7, from-to 1 64 d)
+
+abbrev pub generatorRange : ℕ → List ℕ → Question
+generatorRange v gs = (8, all (λ g. ltb 0 g && ltb g (2 ^ (v + 1))) gs)
+
+-- some generator has bit v, and some generator has bit 0
+abbrev pub generatorEnds : ℕ → List ℕ → Question
+generatorEnds v gs = (9, any (λ g. eqb (bit v g) 1) gs && any (λ g. eqb (bit 0 g) 1) gs)
+
+-- a lent list has at least as many entries as are needed; a call that takes several asks this of each
+abbrev pub room : ℕ → ℕ → Question
+room need have = (10, leb need have)
+
+-- the numbers that a work area must have
+unfoldable pub workSize : ℕ
+workSize = 8192
+
+-- degree m and constant term 1
+abbrev pub checkPolynomial : ℕ → ℕ → Question
+checkPolynomial m p = (11, eqb (p / 2 ^ m) 1 && eqb (bit 0 p) 1)
+
+-- a word of N bits; a message of K = N - m bits likewise
+abbrev pub below : ℕ → ℕ → Question
+below N u = (12, ltb u (2 ^ N))

@@ -1,0 +1,43 @@
+-- The tail-biting paths below the threshold (document 01: paths), as one ordered list, and how many there are of each weight (the plain counts).
+-- By cyclic products alone: no state, walk or event enters here.
+-- Assumes nothing.
+use Prim.Native.Nat.{ℕ, zero, suc, _+_, _-_, _*_, _/_, _%_, _^_}
+use mathlib.Core.List.{List, [], _∷_, map, flatMap}
+use lib.Dec.{eqb}
+use Rattle.lists.specs.Lists.{upFrom, filter, count, padded}
+use Rattle.code.specs.Weight.{weight}
+use Rattle.order.specs.Order.{Order}
+
+-- the nonzero words of N bits: 1 to 2^N - 1
+unfoldable pub words : ℕ → List ℕ
+words N = upFrom 1 (2 ^ N - 1)
+
+-- the nonzero words of weight w, by number
+unfoldable pub wordsOfWeight : Order → ℕ → List ℕ
+wordsOfWeight o w = filter (λ u. eqb (weight (o .N) (o .generators) u) w) (words (o .N))
+
+-- the weights below the threshold
+unfoldable pub weights : Order → List ℕ
+weights o = upFrom 0 (o .d)
+
+-- the nonzero words of weight below d, by weight, then number
+unfoldable pub paths : Order → List ℕ
+paths o = flatMap (wordsOfWeight o) (weights o)
+
+-- how many there are of each weight below d
+unfoldable pub plainCounts : Order → List ℕ
+plainCounts o = map (λ w. count (λ u. eqb (weight (o .N) (o .generators) u) w) (words (o .N))) (weights o)
+
+-- ---- the lent tables
+
+-- a word in two halves of 64 bits, the low half first
+unfoldable pub halves : ℕ → List ℕ
+halves u = u % 2 ^ 64 ∷ u / 2 ^ 64 ∷ []
+
+-- what a path table of `size` numbers holds after an accepted call: two numbers a path, zeros after the last path, an odd last number too
+unfoldable pub pathTable : ℕ → Order → List ℕ
+pathTable size o = padded size 0 (flatMap halves (paths o))
+
+-- how many paths such a table takes
+unfoldable pub pathRoom : ℕ → ℕ
+pathRoom size = size / 2

@@ -1,0 +1,3 @@
+pub mod Undetected
+pub mod Choice
+pub mod Row
