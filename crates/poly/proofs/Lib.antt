@@ -1,0 +1,5 @@
+pub mod Sum
+pub mod Horner
+pub mod Product
+pub mod Remainder
+pub mod Check
