@@ -8,13 +8,7 @@ use mathlib.Core.List.{List, [], _∷_}
 use lib.Bits.{bitAnd}
 use lib.Count.{ones}
 use lib.Dec.{ltb, eqb}
-use Rattle.lists.specs.Lists.{sum}
-use Rattle.poly.specs.Poly.{bit}
-
--- the number whose bit j is f j, for j below k
-unfoldable pub fromBits : ℕ → (ℕ → ℕ) → ℕ
-fromBits zero f = 0
-fromBits (suc k) f = f 0 + 2 * fromBits k (λ j. f (suc j))
+use Rattle.poly.specs.Poly.{bit, fromBits}
 
 -- the bit of a word of N bits at place i, places taken modulo N
 unfoldable pub place : ℕ → ℕ → ℕ → ℕ
@@ -23,6 +17,10 @@ place N u i = bit (i % N) u
 -- The state before step t: its bit j is the word's bit at place t - 1 - j. (N is added so that the place is no negative number: v is at most N.)
 unfoldable pub stateAt : ℕ → ℕ → ℕ → ℕ → ℕ
 stateAt v N u t = fromBits v (λ j. place N u (t + N - suc j))
+
+-- the word begun r steps later: its bit t is the word's bit at place t + r (document 01: rotated)
+unfoldable pub rotate : ℕ → ℕ → ℕ → ℕ
+rotate N r u = fromBits N (λ t. place N u (t + r))
 
 -- input b leads from state s to this state
 unfoldable pub next : ℕ → ℕ → ℕ → ℕ

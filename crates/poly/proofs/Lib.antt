@@ -1,4 +1,5 @@
 pub mod Sum
+pub mod Bits
 pub mod Horner
 pub mod Product
 pub mod Remainder

@@ -12,14 +12,11 @@ use lib.Pow.{split, pow-pos}
 use lib.Bits.{differ}
 use Rattle.poly.specs.Poly.{bit, _⊕_, horner, _⊗_, HasDegree, register, remainder, Divides}
 use Rattle.poly.proofs.Sum.{mod2-lt, bit-lt, for-bits, bit-⊕, half-push, mod2-push, ⊕-zero-l, ⊕-zero-r, ⊕-self, ⊕-assoc, ⊕-comm, ⊕-cancel-r, ⊕-interchange, ⊕-push, ⊕-shr, eq-of-⊕-zero, double-⊕, push-⊕, halves-⊕, digit-times-⊕, differ-times}
+use Rattle.poly.proofs.Bits.{bit-zero}
 use Rattle.poly.proofs.Horner.{horner-step, horner-zero, horner-⊕, LinearStep}
 use Rattle.poly.proofs.Product.{⊗-zero, ⊗-step, ⊗-push}
 
 -- ---- the register
-
-bit-zero : (m : ℕ) → bit m 0 ≡ 0
-unfolding bit
-bit-zero m = ap (λ (x : ℕ). x % 2) (zero-div (2 ^ m))
 
 register-rest : (m p : ℕ) → register m p 0 0 ≡ 0
 unfolding register
@@ -130,15 +127,15 @@ division m p =
     (0, sym (ap₂ (λ (x y : ℕ). x ⊕ y) (⊗-zero p) (remainder-zero m p) ∙ ⊕-zero-l 0))
     (λ n ih. (2 * ih .0 + bit m (2 * remainder m p (n / 2) + n % 2), division-step m p (ih .0) n (ih .1)))
 
-half-lt : (m p : ℕ) → HasDegree m p → p / 2 < 2 ^ m
-half-lt m p d =
+degree-half-lt : (m p : ℕ) → HasDegree m p → p / 2 < 2 ^ m
+degree-half-lt m p d =
     div-lt-iff-lt-mul (lit< tt) .1 (subst (λ (x : ℕ). p < x) (mul-comm 2 (2 ^ m)) (div-lt-iff-lt-mul (pow-pos m) .0 (le-of-eq (ap suc d))))
 
 remainder-self : (m p : ℕ) → HasDegree m p → remainder m p p ≡ 0
 unfolding register bit
 remainder-self m p d =
     remainder-step m p p
-    ∙ ap (λ (x : ℕ). register m p x (p % 2)) (remainder-small m p (p / 2) (half-lt m p d))
+    ∙ ap (λ (x : ℕ). register m p x (p % 2)) (remainder-small m p (p / 2) (degree-half-lt m p d))
     ∙ ap (λ (x : ℕ). x ⊕ (bit m x * p)) (div-add-mod p 2)
     ∙ ap (λ (x : ℕ). p ⊕ (x % 2 * p)) d ∙ ap (λ (x : ℕ). p ⊕ x) (one-mul p) ∙ ⊕-self p
 

@@ -29,6 +29,10 @@ pub differ-lt : (x y : ℕ) → x < 2 → y < 2 → differ x y < 2
 differ-lt x y hx hy =
     for-bits (λ (a : ℕ). differ a y < 2) hy (for-bits (λ (b : ℕ). differ 1 b < 2) (lit< tt) (lit< tt) y hy) x hx
 
+pub differ-zero-r : (x : ℕ) → differ x 0 ≡ x
+differ-zero-r zero = refl
+differ-zero-r (suc x) = refl
+
 pub differ-assoc : (x y z : ℕ) → x < 2 → y < 2 → z < 2 → differ (differ x y) z ≡ differ x (differ y z)
 differ-assoc x y z hx hy hz =
     for-bits (λ (a : ℕ). differ (differ a y) z ≡ differ a (differ y z)) refl

@@ -12,6 +12,11 @@ infixl 70 _⊗_
 unfoldable pub bit : ℕ → ℕ → ℕ
 bit j a = a / 2 ^ j % 2
 
+-- the number whose bit j is f j, for j below k
+unfoldable pub fromBits : ℕ → (ℕ → ℕ) → ℕ
+fromBits zero f = 0
+fromBits (suc k) f = f 0 + 2 * fromBits k (λ j. f (suc j))
+
 -- the sum: coefficient by coefficient, modulo 2
 unfoldable pub _⊕_ : ℕ → ℕ → ℕ
 _⊕_ a b = bitXor a b

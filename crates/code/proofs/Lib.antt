@@ -1,0 +1,4 @@
+pub mod States
+pub mod Walks
+pub mod Steps
+pub mod Rotation
