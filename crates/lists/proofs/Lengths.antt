@@ -1,0 +1,62 @@
+-- How long the lists of `specs/Lists.antt` are.
+-- Assumes nothing.
+use Prim.Native.Nat.{ℕ, zero, suc, _+_, _-_, _≤_, _<_}
+use native.Mathlib.Nat.{add-zero}
+use native.Mathlib.Omega.{arith}
+use mathlib.Core.Path.{_≡_, refl, sym, ap, ap₂, _∙_, fun-ext}
+use mathlib.Core.Bool.{Bool, true, false, cond}
+use mathlib.Core.List.{List, [], _∷_, _++_, map, flatMap}
+use lib.ListN.{length, getD, replicate, length-append, length-replicate}
+use Rattle.lists.specs.Lists.{upFrom, filter, count, sum, padded}
+
+-- the numbers of a list, added up
+unfoldable pub total : List ℕ → ℕ
+total [] = 0
+total (x ∷ xs) = x + total xs
+
+pub length-upFrom : (n k : ℕ) → length (upFrom n k) ≡ k
+unfolding upFrom
+length-upFrom n zero = refl
+length-upFrom n (suc k) = ap suc (length-upFrom (suc n) k)
+
+pub getD-upFrom : (n k i : ℕ) → i < k → getD (upFrom n k) i 0 ≡ n + i
+unfolding upFrom
+getD-upFrom n zero i h = absurd (omega arith)
+getD-upFrom n (suc k) zero h = omega arith
+getD-upFrom n (suc k) (suc i) h = let r = getD-upFrom (suc n) k i (omega arith) in omega arith
+
+module _ {A : Type 0} where
+  kept-length : (b : Bool) (x : A) (rest : List A) → length (cond b (x ∷ rest) rest) ≤ suc (length rest)
+  kept-length true x rest = omega arith
+  kept-length false x rest = omega arith
+
+  pub length-filter-le : (f : A → Bool) (xs : List A) → length (filter f xs) ≤ length xs
+  unfolding filter
+  length-filter-le f [] = omega arith
+  length-filter-le f (x ∷ xs) =
+      let r = length-filter-le f xs in
+      let k = kept-length (f x) x (filter f xs) in
+      omega arith
+
+  pub count-is-length-filter : (f : A → Bool) (xs : List A) → count f xs ≡ length (filter f xs)
+  unfolding count
+  count-is-length-filter f xs = refl
+
+  pub length-flatMap : {B : Type 0} (f : A → List B) (xs : List A) → length (flatMap f xs) ≡ total (map (λ x. length (f x)) xs)
+  unfolding flatMap total
+  length-flatMap f [] = refl
+  length-flatMap f (x ∷ xs) = let r = length-flatMap f xs in omega (arith, length-append (f x) (flatMap f xs))
+
+  pub length-padded : (n : ℕ) (z : A) (xs : List A) → length xs ≤ n → length (padded n z xs) ≡ n
+  unfolding padded
+  length-padded n z xs h = omega (arith, length-append xs (replicate (n - length xs) z), length-replicate (n - length xs) z)
+
+-- the same sum, over a range
+pub total-upFrom : (f : ℕ → ℕ) (n k : ℕ) → total (map f (upFrom n k)) ≡ sum k (λ j. f (n + j))
+unfolding total upFrom sum
+total-upFrom f n zero = refl
+total-upFrom f n (suc k) =
+    ap₂ _+_ (ap f (sym (add-zero n))) (total-upFrom f (suc n) k ∙ ap (sum k) (fun-ext (λ j. ap f (shift j))))
+  where
+    shift : (j : ℕ) → suc n + j ≡ n + suc j
+    shift j = omega arith

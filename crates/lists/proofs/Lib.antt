@@ -1,0 +1,4 @@
+pub mod Tests
+pub mod Member
+pub mod Lengths
+pub mod Sorted
