@@ -2,3 +2,4 @@ pub mod Tests
 pub mod Member
 pub mod Lengths
 pub mod Sorted
+pub mod Keys
