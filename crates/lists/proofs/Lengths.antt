@@ -1,12 +1,12 @@
--- How long the lists of `specs/Lists.antt` are.
+-- How long the lists of `specs/Lists.antt` are, and what stands where in a range and its images.
 -- Assumes nothing.
 use Prim.Native.Nat.{ℕ, zero, suc, _+_, _-_, _≤_, _<_}
-use native.Mathlib.Nat.{add-zero}
+use native.Mathlib.Nat.{add-zero, le-of-suc-le-suc}
 use native.Mathlib.Omega.{arith}
 use mathlib.Core.Path.{_≡_, refl, sym, ap, ap₂, _∙_, fun-ext}
 use mathlib.Core.Bool.{Bool, true, false, cond}
 use mathlib.Core.List.{List, [], _∷_, _++_, map, flatMap}
-use lib.ListN.{length, getD, replicate, length-append, length-replicate}
+use lib.ListN.{length, getD, replicate, length-append, length-map, length-replicate}
 use Rattle.lists.specs.Lists.{upFrom, filter, count, sum, padded}
 
 -- the numbers of a list, added up
@@ -24,6 +24,18 @@ unfolding upFrom
 getD-upFrom n zero i h = absurd (omega arith)
 getD-upFrom n (suc k) zero h = omega arith
 getD-upFrom n (suc k) (suc i) h = let r = getD-upFrom (suc n) k i (omega arith) in omega arith
+
+pub getD-map-upFrom : {A : Type 0} (f : ℕ → A) (n k i : ℕ) (z : A) → i < k → getD (map f (upFrom n k)) i z ≡ f (n + i)
+unfolding upFrom
+getD-map-upFrom f n zero i z h = absurd (omega arith)
+getD-map-upFrom f n (suc k) zero z h = ap f (sym (add-zero n))
+getD-map-upFrom f n (suc k) (suc i) z h = getD-map-upFrom f (suc n) k i z (le-of-suc-le-suc h) ∙ ap f shift
+  where
+    shift : suc n + i ≡ n + suc i
+    shift = omega arith
+
+pub length-map-upFrom : {A : Type 0} (f : ℕ → A) (n k : ℕ) → length (map f (upFrom n k)) ≡ k
+length-map-upFrom f n k = length-map (upFrom n k) f ∙ length-upFrom n k
 
 module _ {A : Type 0} where
   kept-length : (b : Bool) (x : A) (rest : List A) → length (cond b (x ∷ rest) rest) ≤ suc (length rest)
