@@ -3,3 +3,4 @@ pub mod Member
 pub mod Lengths
 pub mod Sorted
 pub mod Keys
+pub mod Least

@@ -1,0 +1,4 @@
+pub mod Fewer
+pub mod Candidates
+pub mod Best
+pub mod Chosen
