@@ -103,10 +103,13 @@ module _ (o : Order) where
       map-sorted _<_ (By (λ e. e .input)) (eventOf o i l) (λ c c′ h. h) (filter (listed o i l) (upFrom 0 (2 ^ l)))
       (filter-sorted _<_ (listed o i l) (upFrom 0 (2 ^ l)) (upFrom-sorted 0 (2 ^ l)))
 
+  length-of-events : (i l : ℕ) (e : ErrorEvent) → List·Memᴰ e (eventsOfLength o i l) → e .length ≡ l
+  length-of-events i l e m = sym (ap (λ (f : ErrorEvent). f .length) (of-eventsOfLength i l m .3))
+
   eventsOfState-sorted : (i : ℕ) → Sorted (ByThen (λ e. e .length) (By (λ (e : ErrorEvent). e .input))) (eventsOfState o i)
   unfolding eventsOfState
   eventsOfState-sorted i =
-      blocks-sorted (λ e. e .length) (By (λ e. e .input)) (eventsOfLength o i) (λ l e m. sym (ap (λ (f : ErrorEvent). f .length) (of-eventsOfLength i l m .3)))
+      blocks-sorted (λ e. e .length) (By (λ e. e .input)) (eventsOfLength o i) (length-of-events i)
       (eventsOfLength-sorted i) (upFrom 1 (o .N)) (upFrom-sorted 1 (o .N))
 
   state-of-events : (i : ℕ) (e : ErrorEvent) → List·Memᴰ e (eventsOfState o i) → e .state ≡ i

@@ -31,8 +31,11 @@ module _ {A : Type 0} (k : A → ℕ) where
     block-sorted : (i : ℕ) (l : List A) → ((x : A) → List·Memᴰ x l → k x ≡ i) → Sorted S l → Sorted (ByThen k S) l
     block-sorted i [] same s = tt
     block-sorted i (x ∷ xs) same s =
-        (λ y m. inr (same x (List·Memᴰ·head refl) ∙ sym (same y (List·Memᴰ·tail m)), s .0 y m), block-sorted i xs (λ y m. same y (List·Memᴰ·tail m)) (s .1))
+        let rest = block-sorted i xs (λ y m. same y (List·Memᴰ·tail m)) (s .1) in
+        (λ y m. inr (same x (List·Memᴰ·head refl) ∙ sym (same y (List·Memᴰ·tail m)), s .0 y m), rest)
 
-    pub blocks-sorted : (f : ℕ → List A) → ((i : ℕ) (x : A) → List·Memᴰ x (f i) → k x ≡ i) → ((i : ℕ) → Sorted S (f i)) → (is : List ℕ) → Sorted _<_ is → Sorted (ByThen k S) (flatMap f is)
+    pub blocks-sorted : (f : ℕ → List A) → ((i : ℕ) (x : A) → List·Memᴰ x (f i) → k x ≡ i) → ((i : ℕ) → Sorted S (f i))
+        → (is : List ℕ) → Sorted _<_ is → Sorted (ByThen k S) (flatMap f is)
     blocks-sorted f same inside =
-        flatMap-sorted _<_ (ByThen k S) f (λ i. block-sorted i (f i) (same i) (inside i)) (λ i j h x y m n. let p = same i x m in let q = same j y n in inl (omega arith))
+        flatMap-sorted _<_ (ByThen k S) f (λ i. block-sorted i (f i) (same i) (inside i))
+        (λ i j h x y m n. let p = same i x m in let q = same j y n in inl (omega arith))

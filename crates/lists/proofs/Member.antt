@@ -60,7 +60,8 @@ module _ {A : Type 0} where
   unfolding filter
   in-filter f [] m t = absurd (List·Memᴰ·not-nil m)
   in-filter f (y ∷ ys) m t =
-      ⊎-elim (λ e. kept-first (f y) (filter f ys) e (subst (λ z. T (f z)) e t)) (λ r. kept-later (f y) y (in-filter f ys r t)) (List·Memᴰ·cases-cons m)
+      ⊎-elim (λ e. kept-first (f y) (filter f ys) e (subst (λ z. T (f z)) e t)) (λ r. kept-later (f y) y (in-filter f ys r t))
+      (List·Memᴰ·cases-cons m)
 
   pub mem-filter : (f : A → Bool) {x : A} (xs : List A) → List·Memᴰ x (filter f xs) ↔ (List·Memᴰ x xs × T (f x))
   mem-filter f xs = (of-filter f xs, λ h. in-filter f xs (h .0) (h .1))
@@ -116,7 +117,12 @@ module _ {A : Type 0} where
   pub mem-any : (f : A → Bool) (xs : List A) → T (any f xs) ↔ ((x : A) × List·Memᴰ x xs × T (f x))
   mem-any f xs = (of-any f xs, λ h. in-any f xs (h .1) (h .2))
 
-  -- no member passes, and every member fails
+  -- none passes: every member fails
+  pub of-not-any : (f : A → Bool) (xs : List A) → T (not (any f xs)) → (x : A) → List·Memᴰ x xs → T (not (f x))
+  of-not-any f xs t x m = not-T (f x) (λ p. T-not (any f xs) t (in-any f xs m p))
+
+  pub in-not-any : (f : A → Bool) (xs : List A) → ((x : A) → List·Memᴰ x xs → T (not (f x))) → T (not (any f xs))
+  in-not-any f xs h = not-T (any f xs) (λ t. let w = of-any f xs t in T-not (f (w .0)) (h (w .0) (w .1)) (w .2))
+
   pub mem-not-any : (f : A → Bool) (xs : List A) → T (not (any f xs)) ↔ ((x : A) → List·Memᴰ x xs → T (not (f x)))
-  mem-not-any f xs =
-      (λ t x m. not-T (f x) (λ p. T-not (any f xs) t (in-any f xs m p)), λ h. not-T (any f xs) (λ t. let w = of-any f xs t in T-not (f (w .0)) (h (w .0) (w .1)) (w .2)))
+  mem-not-any f xs = (of-not-any f xs, in-not-any f xs)

@@ -40,10 +40,20 @@ unfolding words
 words-sorted N = upFrom-sorted 1 (2 ^ N - 1)
 
 module _ (o : Order) where
-  pub mem-wordsOfWeight : (w u : ℕ) → List·Memᴰ u (wordsOfWeight o w) ↔ (List·Memᴰ u (words (o .N)) × (weight (o .N) (o .generators) u ≡ w))
+  pub of-wordsOfWeight : (w u : ℕ) → List·Memᴰ u (wordsOfWeight o w) → List·Memᴰ u (words (o .N)) × (weight (o .N) (o .generators) u ≡ w)
   unfolding wordsOfWeight
-  mem-wordsOfWeight w u =
-      (λ m. let h = of-filter (λ x. eqb (weight (o .N) (o .generators) x) w) (words (o .N)) m in (h .0, eqb→eq (weight (o .N) (o .generators) u) w (h .1)), λ h. in-filter (λ x. eqb (weight (o .N) (o .generators) x) w) (words (o .N)) (h .0) (subst (λ z. T (eqb (weight (o .N) (o .generators) u) z)) (h .1) (eqb-refl (weight (o .N) (o .generators) u))))
+  of-wordsOfWeight w u m =
+      let h = of-filter (λ x. eqb (weight (o .N) (o .generators) x) w) (words (o .N)) m in
+      (h .0, eqb→eq (weight (o .N) (o .generators) u) w (h .1))
+
+  pub in-wordsOfWeight : (w u : ℕ) → List·Memᴰ u (words (o .N)) → weight (o .N) (o .generators) u ≡ w → List·Memᴰ u (wordsOfWeight o w)
+  unfolding wordsOfWeight
+  in-wordsOfWeight w u m e =
+      let t = subst (λ x. T (eqb (weight (o .N) (o .generators) u) x)) e (eqb-refl (weight (o .N) (o .generators) u)) in
+      in-filter (λ x. eqb (weight (o .N) (o .generators) x) w) (words (o .N)) m t
+
+  pub mem-wordsOfWeight : (w u : ℕ) → List·Memᴰ u (wordsOfWeight o w) ↔ (List·Memᴰ u (words (o .N)) × (weight (o .N) (o .generators) u ≡ w))
+  mem-wordsOfWeight w u = (of-wordsOfWeight w u, λ h. in-wordsOfWeight w u (h .0) (h .1))
 
   pub mem-weights : (w : ℕ) → List·Memᴰ w (weights o) ↔ (w < o .d)
   unfolding weights
@@ -54,7 +64,7 @@ module _ (o : Order) where
   of-paths u m =
       let b = of-flatMap (wordsOfWeight o) (weights o) m in
       let light : b .0 < o .d = mem-weights (b .0) .0 (b .1) in
-      let h = mem-wordsOfWeight (b .0) u .0 (b .2) in
+      let h = of-wordsOfWeight (b .0) u (b .2) in
       let word = mem-words (o .N) u .0 (h .0) in
       record { nonzero = word .0; fits = word .1; below = subst (λ w. w < o .d) (sym (h .1)) light }
 
@@ -62,7 +72,8 @@ module _ (o : Order) where
   unfolding paths
   in-paths u h =
       let w : ℕ = weight (o .N) (o .generators) u in
-      in-flatMap (wordsOfWeight o) (weights o) (mem-weights w .1 (h .below)) (mem-wordsOfWeight w u .1 (mem-words (o .N) u .1 (h .nonzero, h .fits), refl))
+      let word : List·Memᴰ u (words (o .N)) = mem-words (o .N) u .1 (h .nonzero, h .fits) in
+      in-flatMap (wordsOfWeight o) (weights o) (mem-weights w .1 (h .below)) (in-wordsOfWeight w u word refl)
 
   pub mem-paths : (u : ℕ) → List·Memᴰ u (paths o) ↔ IsPath o u
   mem-paths u = (of-paths u, in-paths u)
@@ -76,7 +87,7 @@ module _ (o : Order) where
   pub paths-sorted : Sorted (Before o) (paths o)
   unfolding paths weights
   paths-sorted =
-      blocks-sorted (weight (o .N) (o .generators)) (By (λ u. u)) (wordsOfWeight o) (λ w u m. mem-wordsOfWeight w u .0 m .1) wordsOfWeight-sorted (weights o)
+      blocks-sorted (weight (o .N) (o .generators)) (By (λ u. u)) (wordsOfWeight o) (λ w u m. of-wordsOfWeight w u m .1) wordsOfWeight-sorted (weights o)
       (upFrom-sorted 0 (o .d))
 
   pub before-asymmetric : (u u′ : ℕ) → Before o u u′ → Before o u′ u → ⊥
@@ -99,7 +110,8 @@ module _ (o : Order) where
   pub plain-count-at : (w : ℕ) → w < o .d → getD (plainCounts o) w 0 ≡ length (wordsOfWeight o w)
   unfolding weights
   plain-count-at w h =
-      ap (λ l. getD l w 0) plain-count-is-part ∙ getD-map-upFrom (λ x. length (wordsOfWeight o x)) 0 (o .d) w 0 h ∙ ap (λ x. length (wordsOfWeight o x)) (zero-add w)
+      let part : ℕ → ℕ = λ x. length (wordsOfWeight o x) in
+      ap (λ l. getD l w 0) plain-count-is-part ∙ getD-map-upFrom part 0 (o .d) w 0 h ∙ ap part (zero-add w)
 
   pub plain-counts-sum : total (plainCounts o) ≡ length (paths o)
   unfolding paths

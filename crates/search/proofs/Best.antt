@@ -44,23 +44,27 @@ module _ (o : Order) where
   abbrev pub Unbeaten : ℕ → Type 0
   Unbeaten p = (q : ℕ) → List·Memᴰ q (candidates (o .m)) → T (not (betters o q p))
 
+  -- the test of `best`
+  abbrev stands : ℕ → Bool
+  stands p = not (any (λ q. betters o q p) (candidates (o .m)))
+
   pub of-best : (p : ℕ) → List·Memᴰ p (best o) → List·Memᴰ p (candidates (o .m)) × Unbeaten p
   unfolding best
   of-best p m =
-      let h = of-filter (λ x. not (any (λ q. betters o q x) (candidates (o .m)))) (candidates (o .m)) m in
+      let h = of-filter stands (candidates (o .m)) m in
       (h .0, mem-not-any (λ q. betters o q p) (candidates (o .m)) .0 (h .1))
 
   pub in-best : (p : ℕ) → List·Memᴰ p (candidates (o .m)) → Unbeaten p → List·Memᴰ p (best o)
   unfolding best
   in-best p m u =
-      in-filter (λ x. not (any (λ q. betters o q x) (candidates (o .m)))) (candidates (o .m)) m (mem-not-any (λ q. betters o q p) (candidates (o .m)) .1 u)
+      in-filter stands (candidates (o .m)) m (mem-not-any (λ q. betters o q p) (candidates (o .m)) .1 u)
 
   pub mem-best : (p : ℕ) → List·Memᴰ p (best o) ↔ (List·Memᴰ p (candidates (o .m)) × Unbeaten p)
   mem-best p = (of-best p, λ h. in-best p (h .0) (h .1))
 
   pub best-sorted : Sorted _<_ (best o)
   unfolding best
-  best-sorted = filter-sorted _<_ (λ x. not (any (λ q. betters o q x) (candidates (o .m)))) (candidates (o .m)) (candidates-sorted (o .m))
+  best-sorted = filter-sorted _<_ stands (candidates (o .m)) (candidates-sorted (o .m))
 
   -- ---- one at least
 
@@ -68,7 +72,8 @@ module _ (o : Order) where
   unfolding betters
   unbeaten-among [] h = absurd (omega arith)
   unbeaten-among (x ∷ xs) h =
-      some-unbettered (betters o) (λ p. fewer-irreflexive (undetectedCounts o p)) (λ p q r. fewer-transitive (undetectedCounts o p) (undetectedCounts o q) (undetectedCounts o r)) x xs
+      let counts : ℕ → List ℕ = undetectedCounts o in
+      some-unbettered (betters o) (λ p. fewer-irreflexive (counts p)) (λ p q r. fewer-transitive (counts p) (counts q) (counts r)) x xs
 
   pub best-nonempty : (p : ℕ) × List·Memᴰ p (best o)
   best-nonempty =
@@ -78,7 +83,8 @@ module _ (o : Order) where
 
   -- ---- the same counts, and better than all others
 
-  pub every-other-worse : (p q : ℕ) → List·Memᴰ p (best o) → List·Memᴰ q (candidates (o .m)) → (undetectedCounts o p ≡ undetectedCounts o q) ⊎ T (betters o p q)
+  pub every-other-worse : (p q : ℕ) → List·Memᴰ p (best o) → List·Memᴰ q (candidates (o .m))
+      → (undetectedCounts o p ≡ undetectedCounts o q) ⊎ T (betters o p q)
   every-other-worse p q m c =
       ⊎-elim inl (⊎-elim inr (λ b. absurd (T-not (betters o q p) (of-best p m .1 q c) b))) (better-or-same p q)
 
@@ -88,7 +94,8 @@ module _ (o : Order) where
       ⊎-elim (λ e. e) (λ b. absurd (T-not (betters o p q) (h .1 p (of-best p m .0)) b)) (every-other-worse p q m (h .0))
 
   -- a candidate with the counts of one that is left is left too
-  pub best-of-same : (p q : ℕ) → List·Memᴰ p (best o) → List·Memᴰ q (candidates (o .m)) → undetectedCounts o p ≡ undetectedCounts o q → List·Memᴰ q (best o)
+  pub best-of-same : (p q : ℕ) → List·Memᴰ p (best o) → List·Memᴰ q (candidates (o .m))
+      → undetectedCounts o p ≡ undetectedCounts o q → List·Memᴰ q (best o)
   unfolding betters
   best-of-same p q m c e =
       in-best q c (λ r n. subst (λ counts. T (not (fewer (undetectedCounts o r) counts))) e (of-best p m .1 r n))

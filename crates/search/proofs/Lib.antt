@@ -1,3 +1,4 @@
+pub mod Undetected
 pub mod Fewer
 pub mod Candidates
 pub mod Best
