@@ -1,12 +1,11 @@
 -- The list of events is all of them, each once, by state, length and input number: its members are the walks that are events of weight below
 -- the threshold (`mem-events`), and it is the one list in that order that has these members (`events-unique`).
 -- Assumes nothing.
-use Prim.Native.Nat.{ℕ, zero, suc, _+_, _≤_, _<_, _^_}
+use Prim.Native.Nat.{ℕ, _≤_, _<_, _^_}
 use native.Mathlib.Omega.{arith}
-use mathlib.Core.Path.{_≡_, refl, sym, ap, _∙_, subst}
-use mathlib.Core.Bool.{Bool, _&&_}
+use mathlib.Core.Path.{_≡_, refl, sym, ap, subst}
 use mathlib.Core.Logic.{_↔_}
-use mathlib.Core.List.{List, [], _∷_, map, flatMap, List·Memᴰ, Memᴰ·cast, Memᴰ·map, Memᴰ·of-map}
+use mathlib.Core.List.{List, List·Memᴰ, Memᴰ·cast, Memᴰ·map, Memᴰ·of-map}
 use lib.Dec.{T, ltb, ltb→lt, lt→ltb}
 use Rattle.lists.specs.Lists.{upFrom, filter}
 use Rattle.lists.proofs.Tests.{T-and}

@@ -1,15 +1,15 @@
 -- The list of paths is all of them, each once, by weight and number: its members are the nonzero words of N bits of weight below the threshold
 -- (`mem-paths`), and it is the one list in that order that has these members (`paths-unique`). The plain counts are the lengths of its parts.
 -- Assumes nothing.
-use Prim.Native.Nat.{ℕ, zero, suc, _+_, _-_, _≤_, _<_, _^_}
+use Prim.Native.Nat.{ℕ, _-_, _≤_, _<_, _^_}
 use native.Mathlib.Nat.{zero-add}
 use native.Mathlib.Omega.{arith}
 use mathlib.Core.Path.{_≡_, refl, sym, ap, _∙_, subst}
 use mathlib.Core.Logic.{_↔_}
-use mathlib.Core.List.{List, [], _∷_, map, flatMap, List·Memᴰ}
+use mathlib.Core.List.{List, map, List·Memᴰ}
 use lib.Dec.{T, eqb, eqb→eq, eqb-refl}
 use lib.ListN.{length, getD}
-use Rattle.lists.specs.Lists.{upFrom, filter, count}
+use Rattle.lists.specs.Lists.{count}
 use Rattle.lists.proofs.Member.{upFrom-bounds, in-upFrom, of-filter, in-filter, of-flatMap, in-flatMap}
 use Rattle.lists.proofs.Lengths.{total, length-flatMap, getD-map-upFrom, length-map-upFrom}
 use Rattle.lists.proofs.Sorted.{Sorted, sorted-known, upFrom-sorted, filter-sorted}

@@ -1,16 +1,16 @@
 -- The candidates that are left: those that no candidate betters. There is one at least, they all have the same counts, and every other candidate
 -- is worse than each of them.
 -- Assumes nothing.
-use Prim.Native.Nat.{ℕ, zero, suc, _+_, _-_, _≤_, _<_, _^_}
+use Prim.Native.Nat.{ℕ, _-_, _≤_, _<_}
 use native.Mathlib.Nat.{zero-add, one-le-pow}
 use native.Mathlib.Omega.{arith}
-use mathlib.Core.Path.{_≡_, refl, sym, ap, _∙_, subst}
+use mathlib.Core.Path.{_≡_, sym, ap, _∙_, subst}
 use mathlib.Core.Bool.{Bool, not}
 use mathlib.Core.Logic.{_↔_, _⊎_, inl, inr, ⊎-elim}
-use mathlib.Core.List.{List, [], _∷_, map, List·Memᴰ}
-use lib.Dec.{T, T-not, not-T}
+use mathlib.Core.List.{List, [], _∷_, List·Memᴰ}
+use lib.Dec.{T, T-not}
 use lib.ListN.{length, getD}
-use Rattle.lists.specs.Lists.{upFrom, filter, any}
+use Rattle.lists.specs.Lists.{any}
 use Rattle.lists.proofs.Member.{of-filter, in-filter, mem-not-any}
 use Rattle.lists.proofs.Lengths.{getD-map-upFrom, length-map-upFrom}
 use Rattle.lists.proofs.Sorted.{Sorted, filter-sorted}

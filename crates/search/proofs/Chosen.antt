@@ -1,10 +1,10 @@
 -- What the choice says. `one p counts`: p alone is best, and every other polynomial of degree m and constant term 1 has more undetected words
 -- at the lowest weight where the two differ. `tie left counts`: that many are best, with the same counts. Each holds in no other case.
 -- Assumes nothing.
-use Prim.Native.Nat.{ℕ, zero, suc, _≤_, _<_}
+use Prim.Native.Nat.{ℕ, suc, _≤_, _<_}
 use native.Mathlib.Decide.{ℕ-discrete}
 use native.Mathlib.Omega.{arith}
-use mathlib.Core.Path.{_≡_, refl, sym, _∙_, ap, ap₂, subst}
+use mathlib.Core.Path.{_≡_, refl, sym, _∙_, ap, subst}
 use mathlib.Core.Bool.{not}
 use mathlib.Core.Logic.{_↔_, _≢_, ⊎-elim}
 use mathlib.Core.List.{List, [], _∷_, List·Memᴰ, List·Memᴰ·head, List·Memᴰ·not-nil, List·Memᴰ·eq-of-singleton, Memᴰ·cast}
@@ -13,7 +13,7 @@ use lib.ListN.{length}
 use Rattle.lists.proofs.Sorted.{sorted-unique}
 use Rattle.order.specs.Order.{Order}
 use Rattle.search.specs.Undetected.{undetectedCounts}
-use Rattle.search.specs.Choice.{fewer, betters, best, Choice, one, tie, choiceOf, choice}
+use Rattle.search.specs.Choice.{fewer, betters, best, one, tie, choiceOf, choice}
 use Rattle.search.proofs.Fewer.{LowestLess, lowest-of-fewer, fewer-of-lowest}
 use Rattle.search.proofs.Candidates.{IsCandidate, of-candidates, in-candidates}
 use Rattle.search.proofs.Best.{length-undetectedCounts, of-best, best-sorted, best-nonempty, every-other-worse, best-share, best-of-same}
