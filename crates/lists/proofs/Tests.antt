@@ -1,0 +1,29 @@
+-- What a test made of tests says: `&&` is both, `||` one of the two, `not` the failure; and every test passes or fails.
+-- Assumes nothing.
+use mathlib.Core.Path.{_≡_, refl}
+use mathlib.Core.Bool.{Bool, true, false, not, _&&_, _||_}
+use mathlib.Core.Logic.{_↔_, _⊎_, inl, inr}
+use lib.Dec.{T, T-not, not-T}
+
+pub T-and : (a b : Bool) → T (a && b) ↔ (T a × T b)
+T-and true b = (λ t. (tt, t), λ h. h .1)
+T-and false b = (λ t. absurd t, λ h. h .0)
+
+pub T-or : (a b : Bool) → T (a || b) ↔ (T a ⊎ T b)
+T-or true b = (λ t. inl tt, λ h. tt)
+T-or false b = (λ t. inr t, λ h. elim h [ inl t ↦ absurd t | inr t ↦ t ])
+
+pub T-not-iff : (a : Bool) → T (not a) ↔ (T a → ⊥)
+T-not-iff a = (T-not a, not-T a)
+
+pub passes-or-fails : (a : Bool) → T a ⊎ T (not a)
+passes-or-fails true = inl tt
+passes-or-fails false = inr tt
+
+pub true-of-T : (a : Bool) → T a → a ≡ true
+true-of-T true t = refl
+true-of-T false t = absurd t
+
+pub false-of-T-not : (a : Bool) → T (not a) → a ≡ false
+false-of-T-not true t = absurd t
+false-of-T-not false t = refl

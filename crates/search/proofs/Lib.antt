@@ -1,0 +1,5 @@
+pub mod Undetected
+pub mod Fewer
+pub mod Candidates
+pub mod Best
+pub mod Chosen
