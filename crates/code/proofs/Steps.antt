@@ -14,7 +14,7 @@ use lib.Pow.{pow-pos, pow-lt, high}
 use Rattle.lists.specs.Lists.{sum, all}
 use Rattle.lists.proofs.Sums.{sum-cong, sum-add, sum-zero}
 use Rattle.poly.specs.Poly.{bit, fromBits, _⊕_, _⊗_, HasDegree, register, remainder}
-use Rattle.poly.proofs.Sum.{for-bits, mod2-lt, bit-lt, bit-⊕, differ-lt, differ-zero-r, half-push, mod2-push}
+use Rattle.poly.proofs.Sum.{for-bits, digit-times-lt, mod2-lt, bit-lt, bit-⊕, differ-lt, differ-zero-r, half-push, mod2-push}
 use Rattle.poly.proofs.Bits.{bit-first, bit-later, bit-zero, bit-low, half-lt, ones-sum, fromBits-cong}
 use Rattle.poly.proofs.Product.{⊗-zero, ⊗-step}
 use Rattle.poly.proofs.Remainder.{remainder-zero, remainder-⊕, remainder-double, remainder-small, remainder-lt}
@@ -100,11 +100,6 @@ place-of-zero : (N i : ℕ) → place N 0 i ≡ 0
 unfolding place
 place-of-zero N i = bit-zero (i % N)
 
-digit-times-lt : (N x u : ℕ) → x < 2 → u < 2 ^ N → x * u < 2 ^ N
-digit-times-lt N x u hx hu =
-    for-bits (λ (c : ℕ). c * u < 2 ^ N) (subst (λ (y : ℕ). y < 2 ^ N) (sym (zero-mul u)) (pow-pos N))
-    (subst (λ (y : ℕ). y < 2 ^ N) (sym (one-mul u)) hu) x hx
-
 output-zero : (N u : ℕ) → output N 0 u ≡ 0
 unfolding output
 output-zero N u = ap (remainder N (2 ^ N + 1)) (⊗-zero u) ∙ remainder-zero N (2 ^ N + 1)
@@ -115,7 +110,7 @@ output-step N g u h =
     ap (remainder N (2 ^ N + 1)) (⊗-step u g)
     ∙ remainder-⊕ N (2 ^ N + 1) (2 * (u ⊗ (g / 2))) (g % 2 * u)
     ∙ ap₂ (λ (x y : ℕ). x ⊕ y) (remainder-double N (2 ^ N + 1) (u ⊗ (g / 2)))
-    (remainder-small N (2 ^ N + 1) (g % 2 * u) (digit-times-lt N (g % 2) u (mod2-lt g) h))
+    (remainder-small N (2 ^ N + 1) (g % 2 * u) (digit-times-lt (g % 2) u (2 ^ N) (mod2-lt g) h))
 
 place-output : (n g u t : ℕ) → u < 2 ^ suc n
     → place (suc n) (output (suc n) g u) (suc t) ≡ differ (place (suc n) (output (suc n) (g / 2) u) t) (g % 2 * place (suc n) u (suc t))
@@ -140,7 +135,7 @@ digits-and x y hx hy =
     (for-bits (λ (c : ℕ). min 1 c ≡ 1 * c) refl refl y hy) x hx
 
 digits-times-lt : (x y : ℕ) → x < 2 → y < 2 → x * y < 2
-digits-times-lt x y hx hy = digit-times-lt 1 x y hx hy
+digits-times-lt x y hx hy = digit-times-lt x y 2 hx hy
 
 mod2-and : (g w : ℕ) → bitAnd g w % 2 ≡ g % 2 * (w % 2)
 mod2-and g w =

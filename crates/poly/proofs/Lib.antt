@@ -3,4 +3,7 @@ pub mod Bits
 pub mod Horner
 pub mod Product
 pub mod Remainder
+pub mod Division
+pub mod Halves
+pub mod Shifts
 pub mod Check

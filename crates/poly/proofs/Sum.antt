@@ -1,8 +1,8 @@
 -- Laws of the sum of polynomials, and of their coefficients.
 -- Assumes nothing.
 use mathlib.Core.Path.{_≡_, refl, sym, ap, ap₂, _∙_, subst}
-use Prim.Native.Nat.{ℕ, zero, suc, _+_, _*_, _/_, _%_, _^_, _≤_, _<_}
-use native.Mathlib.Nat.{not-suc-le-zero, le-of-suc-le-suc, mod-lt, zero-lt-suc, one-mul, zero-mul, mul-comm, mul-zero, mul-one, div-add-mod, div-add-mod', pow-suc, add-zero, add-comm, mod-eq-of-lt, div-one, div-div-eq-div-mul}
+use Prim.Native.Nat.{ℕ, zero, suc, _+_, _*_, _/_, _%_, _^_, _≤_, _<_, zero-le}
+use native.Mathlib.Nat.{not-suc-le-zero, le-of-suc-le-suc, lt-of-le-of-lt, mod-lt, zero-lt-suc, one-mul, zero-mul, mul-comm, mul-zero, mul-one, div-add-mod, div-add-mod', pow-suc, add-zero, add-comm, mod-eq-of-lt, div-one, div-div-eq-div-mul}
 use native.Mathlib.Numerals.{add-one}
 use native.Mathlib.Omega.{arith}
 use lib.Dec.{lit<}
@@ -154,6 +154,11 @@ halves-⊕ n = sym (push-⊕ (n / 2) (n % 2) (mod2-lt n)) ∙ div-add-mod n 2
 pub digit-times-⊕ : (x a b : ℕ) → x < 2 → x * (a ⊕ b) ≡ (x * a) ⊕ (x * b)
 digit-times-⊕ x a b h =
     for-bits (λ (c : ℕ). c * (a ⊕ b) ≡ (c * a) ⊕ (c * b)) (simp (zero-mul, ⊕-zero-l)) (simp one-mul) x h
+
+pub digit-times-lt : (x a k : ℕ) → x < 2 → a < k → x * a < k
+digit-times-lt x a k hx h =
+    for-bits (λ (c : ℕ). c * a < k) (subst (λ (y : ℕ). y < k) (sym (zero-mul a)) (lt-of-le-of-lt zero-le h))
+    (subst (λ (y : ℕ). y < k) (sym (one-mul a)) h) x hx
 
 pub differ-times : (x y a : ℕ) → x < 2 → y < 2 → differ x y * a ≡ (x * a) ⊕ (y * a)
 differ-times x y a hx hy =

@@ -1,0 +1,144 @@
+-- Laws of shifts and cuts of a number in two halves of 64 bits, h * 2^64 + l, in the shapes in which `src/word.rt` computes them.
+-- Assumes nothing.
+use mathlib.Core.Path.{_≡_, refl, sym, ap, ap₂, _∙_, subst}
+use mathlib.Core.Bool.{true, false}
+use Prim.Native.Nat.{ℕ, zero, suc, _+_, _-_, _*_, _/_, _%_, _^_, _≤_, _<_}
+use native.Mathlib.Nat.{one-mul, zero-mul, zero-add, add-zero, add-assoc, add-comm, add-mul, mul-assoc, mul-comm, mul-right-comm, mod-eq-of-lt, mod-lt, lt-of-lt-of-le, le-trans, le-of-eq, add-sub-of-le, sub-add-cancel, mul-div-mul-right, mul-div-left, mul-mod-left, mul-add-mod-self-right, mul-add-div-right, div-add-mod', div-lt-iff-lt-mul, lt-of-mul-lt-mul-right, le-add-right, lt-of-le-of-lt}
+use native.Mathlib.Omega.{arith}
+use borrow.Author.Tests.{lt-ltb, le-ltb}
+use lib.Dec.{ltb, lit<}
+use lib.Arith.{digits-lt, digits-div, digits-mod, mod-mul}
+use lib.Pow.{pow-pos, pow-add, pow-lt, pow-mono, mod-pow-add}
+use Rattle.poly.proofs.Halves.{ltb-cong}
+
+pub shl-one : (k : ℕ) → k < 64 → 1 * 2 ^ k % 2 ^ 64 ≡ 2 ^ k
+shl-one k h = ap (λ (x : ℕ). x % 2 ^ 64) (one-mul (2 ^ k)) ∙ mod-eq-of-lt (pow-lt h)
+
+-- 2^(k - 64) high halves make 2^k
+high-power : (k : ℕ) → 64 ≤ k → 2 ^ (k - 64) * 2 ^ 64 ≡ 2 ^ k
+high-power k h = sym (pow-add 2 (k - 64) 64) ∙ ap (λ (x : ℕ). 2 ^ x) (sub-add-cancel h)
+
+pub halves-lt : (h l : ℕ) → h < 2 ^ 64 → l < 2 ^ 64 → h * 2 ^ 64 + l < 2 ^ 128
+halves-lt h l p q = digits-lt p q
+
+-- ---- below 2^k
+
+pub below-low : (h l k p : ℕ) → h ≡ 0 → p ≡ 2 ^ k → ltb l p ≡ ltb (h * 2 ^ 64 + l) (2 ^ k)
+below-low h l k p e f = ltb-cong l p (h * 2 ^ 64 + l) (2 ^ k) (λ t. omega arith) (λ t. omega arith)
+
+pub not-below-low : (h l k : ℕ) → k < 64 → (h ≡ 0 → ⊥) → false ≡ ltb (h * 2 ^ 64 + l) (2 ^ k)
+not-below-low h l k t n = let s : 2 ^ k < 2 ^ 64 = pow-lt t in sym (le-ltb (h * 2 ^ 64 + l) (2 ^ k) (omega arith))
+
+pub below-high : (h l k p : ℕ) → l < 2 ^ 64 → 64 ≤ k → p ≡ 2 ^ (k - 64) → ltb h p ≡ ltb (h * 2 ^ 64 + l) (2 ^ k)
+below-high h l k p q s e =
+    let f : p * 2 ^ 64 ≡ 2 ^ k = ap (λ (x : ℕ). x * 2 ^ 64) e ∙ high-power k s in
+    ltb-cong h p (h * 2 ^ 64 + l) (2 ^ k) (λ t. omega arith) (λ t. omega arith)
+
+pub below-all : (h l k : ℕ) → h < 2 ^ 64 → l < 2 ^ 64 → 128 ≤ k → true ≡ ltb (h * 2 ^ 64 + l) (2 ^ k)
+below-all h l k p q s = sym (lt-ltb (h * 2 ^ 64 + l) (2 ^ k) (lt-of-lt-of-le (halves-lt h l p q) (pow-mono s)))
+
+-- ---- the k lowest bits
+
+pub cut-low : (h l k p : ℕ) → k < 64 → p ≡ 2 ^ k → 0 * 2 ^ 64 + l % p ≡ (h * 2 ^ 64 + l) % 2 ^ k
+cut-low h l k p s e =
+    zero-add (l % p) ∙ ap (λ (x : ℕ). l % x) e
+    ∙ sym (ap (λ (x : ℕ). (x + l) % 2 ^ k)
+    (ap (λ (x : ℕ). h * x) (ap (λ (x : ℕ). 2 ^ x) (sym (sub-add-cancel {n = 64} {m = k} (omega arith))) ∙ pow-add 2 (64 - k) k) ∙ sym (mul-assoc h (2 ^ (64 - k)) (2 ^ k)))
+    ∙ mul-add-mod-self-right (h * 2 ^ (64 - k)) (2 ^ k) l)
+
+pub cut-high : (h l k p : ℕ) → l < 2 ^ 64 → 64 ≤ k → p ≡ 2 ^ (k - 64) → h % p * 2 ^ 64 + l ≡ (h * 2 ^ 64 + l) % 2 ^ k
+cut-high h l k p q s e =
+    sym (ap (λ (x : ℕ). (h * 2 ^ 64 + l) % 2 ^ x) (sym (sub-add-cancel s))
+    ∙ mod-pow-add (h * 2 ^ 64 + l) (k - 64) 64
+    ∙ ap₂ (λ (x y : ℕ). x % 2 ^ (k - 64) * 2 ^ 64 + y) (digits-div h q) (digits-mod h q)
+    ∙ ap (λ (x : ℕ). h % x * 2 ^ 64 + l) (sym e))
+
+pub cut-none : (h l k : ℕ) → h < 2 ^ 64 → l < 2 ^ 64 → 128 ≤ k → h * 2 ^ 64 + l ≡ (h * 2 ^ 64 + l) % 2 ^ k
+cut-none h l k p q s = sym (mod-eq-of-lt (lt-of-lt-of-le (halves-lt h l p q) (pow-mono s)))
+
+-- ---- one bit shifted in
+
+pub push-low-fits : (l b : ℕ) → b < 2 → l * 2 % 2 ^ 64 + b < 2 ^ 64
+push-low-fits l b s = omega arith
+
+pub push-high-fits : (h l : ℕ) → l < 2 ^ 64 → h * 2 % 2 ^ 64 + l / 2 ^ 63 < 2 ^ 64
+push-high-fits h l s = omega arith
+
+push-carry : (h l b : ℕ) → 2 * (h * 2 ^ 64 + l) + b ≡ (h * 2 + l / 2 ^ 63) * 2 ^ 64 + (l * 2 % 2 ^ 64 + b)
+push-carry h l b = omega arith
+
+push-top : (h l : ℕ) → l < 2 ^ 64 → (h * 2 + l / 2 ^ 63) % 2 ^ 64 ≡ h * 2 % 2 ^ 64 + l / 2 ^ 63
+push-top h l s = omega arith
+
+pub push-halves : (h l b : ℕ) → l < 2 ^ 64 → b < 2
+    → (h * 2 % 2 ^ 64 + l / 2 ^ 63) * 2 ^ 64 + (l * 2 % 2 ^ 64 + b) ≡ (2 * (h * 2 ^ 64 + l) + b) % 2 ^ 128
+push-halves h l b p s =
+    let q : l * 2 % 2 ^ 64 + b < 2 ^ 64 = push-low-fits l b s in
+    sym (ap (λ (x : ℕ). x % 2 ^ 128) (push-carry h l b)
+    ∙ mod-pow-add ((h * 2 + l / 2 ^ 63) * 2 ^ 64 + (l * 2 % 2 ^ 64 + b)) 64 64
+    ∙ ap₂ (λ (x y : ℕ). x % 2 ^ 64 * 2 ^ 64 + y) (digits-div (h * 2 + l / 2 ^ 63) q) (digits-mod (h * 2 + l / 2 ^ 63) q)
+    ∙ ap (λ (x : ℕ). x * 2 ^ 64 + (l * 2 % 2 ^ 64 + b)) (push-top h l p))
+
+-- ---- shifts by m, with P = 2^m and Q = 2^(64 - m)
+
+powers : (m : ℕ) → m < 64 → 2 ^ (64 - m) * 2 ^ m ≡ 2 ^ 64
+powers m s = sym (pow-add 2 (64 - m) m) ∙ ap (λ (x : ℕ). 2 ^ x) (sub-add-cancel {n = 64} {m = m} (omega arith))
+
+-- what leaves the low half upwards
+carried : (l m : ℕ) → m < 64 → l * 2 ^ m / 2 ^ 64 ≡ l / 2 ^ (64 - m)
+carried l m s = ap (λ (x : ℕ). l * 2 ^ m / x) (sym (powers m s)) ∙ mul-div-mul-right l (2 ^ (64 - m)) (pow-pos m)
+
+-- the shifted number, with its high half not yet cut
+up-parts : (h l m : ℕ) → m < 64 → (h * 2 ^ m + l / 2 ^ (64 - m)) * 2 ^ 64 + l * 2 ^ m % 2 ^ 64 ≡ (h * 2 ^ 64 + l) * 2 ^ m
+up-parts h l m s =
+    ap (λ (x : ℕ). (h * 2 ^ m + x) * 2 ^ 64 + l * 2 ^ m % 2 ^ 64) (sym (carried l m s))
+    ∙ ap (λ (x : ℕ). x + l * 2 ^ m % 2 ^ 64) (add-mul (h * 2 ^ m) (l * 2 ^ m / 2 ^ 64) (2 ^ 64))
+    ∙ add-assoc (h * 2 ^ m * 2 ^ 64) (l * 2 ^ m / 2 ^ 64 * 2 ^ 64) (l * 2 ^ m % 2 ^ 64)
+    ∙ ap₂ (λ (x y : ℕ). x + y) (mul-right-comm h (2 ^ m) (2 ^ 64)) (div-add-mod' (l * 2 ^ m) (2 ^ 64))
+    ∙ sym (add-mul (h * 2 ^ 64) l (2 ^ m))
+
+up-fits : (h l m : ℕ) → m < 64 → (h * 2 ^ 64 + l) * 2 ^ m < 2 ^ 128 → h * 2 ^ m + l / 2 ^ (64 - m) < 2 ^ 64
+up-fits h l m s t =
+    lt-of-mul-lt-mul-right (2 ^ 64)
+    (lt-of-le-of-lt (le-trans (le-add-right ((h * 2 ^ m + l / 2 ^ (64 - m)) * 2 ^ 64) (l * 2 ^ m % 2 ^ 64)) (le-of-eq (up-parts h l m s))) t)
+
+up-whole : (h l m : ℕ) → m < 64 → (h * 2 ^ 64 + l) * 2 ^ m < 2 ^ 128 → h * 2 ^ m % 2 ^ 64 ≡ h * 2 ^ m
+up-whole h l m s t = mod-eq-of-lt (lt-of-le-of-lt (le-add-right (h * 2 ^ m) (l / 2 ^ (64 - m))) (up-fits h l m s t))
+
+pub up-high-fits : (h l m : ℕ) → m < 64 → (h * 2 ^ 64 + l) * 2 ^ m < 2 ^ 128 → h * 2 ^ m % 2 ^ 64 + l / 2 ^ (64 - m) < 2 ^ 64
+up-high-fits h l m s t = subst (λ (x : ℕ). x + l / 2 ^ (64 - m) < 2 ^ 64) (sym (up-whole h l m s t)) (up-fits h l m s t)
+
+pub up-halves : (h l m : ℕ) → m < 64 → (h * 2 ^ 64 + l) * 2 ^ m < 2 ^ 128
+    → (h * 2 ^ m % 2 ^ 64 + l / 2 ^ (64 - m)) * 2 ^ 64 + l * 2 ^ m % 2 ^ 64 ≡ (h * 2 ^ 64 + l) * 2 ^ m
+up-halves h l m s t =
+    ap (λ (x : ℕ). (x + l / 2 ^ (64 - m)) * 2 ^ 64 + l * 2 ^ m % 2 ^ 64) (up-whole h l m s t) ∙ up-parts h l m s
+
+-- what of the high half comes down into the low one: a multiple of Q
+come-down : (h m : ℕ) → m < 64 → h * 2 ^ (64 - m) % 2 ^ 64 ≡ h % 2 ^ m * 2 ^ (64 - m)
+come-down h m s =
+    ap (λ (x : ℕ). h * 2 ^ (64 - m) % x) (sym (powers m s) ∙ mul-comm (2 ^ (64 - m)) (2 ^ m))
+    ∙ mod-mul (h * 2 ^ (64 - m)) (pow-pos m) (pow-pos (64 - m))
+    ∙ ap₂ (λ (x y : ℕ). x % 2 ^ m * 2 ^ (64 - m) + y) (mul-div-left h (pow-pos (64 - m))) (mul-mod-left h (2 ^ (64 - m)))
+    ∙ add-zero (h % 2 ^ m * 2 ^ (64 - m))
+
+low-part-lt : (l m : ℕ) → m < 64 → l < 2 ^ 64 → l / 2 ^ m < 2 ^ (64 - m)
+low-part-lt l m s q = div-lt-iff-lt-mul (pow-pos m) .1 (subst (λ (x : ℕ). l < x) (sym (powers m s)) q)
+
+pub down-low-fits : (h l m : ℕ) → m < 64 → l < 2 ^ 64 → l / 2 ^ m + h * 2 ^ (64 - m) % 2 ^ 64 < 2 ^ 64
+down-low-fits h l m s q =
+    subst (λ (x : ℕ). l / 2 ^ m + h * 2 ^ (64 - m) % 2 ^ 64 < x) (mul-comm (2 ^ m) (2 ^ (64 - m)) ∙ powers m s)
+    (subst (λ (x : ℕ). x < 2 ^ m * 2 ^ (64 - m)) (sym (add-comm (l / 2 ^ m) (h * 2 ^ (64 - m) % 2 ^ 64) ∙ ap (λ (x : ℕ). x + l / 2 ^ m) (come-down h m s)))
+    (digits-lt (mod-lt h (pow-pos m)) (low-part-lt l m s q)))
+
+pub down-halves : (h l m : ℕ) → m < 64
+    → h / 2 ^ m * 2 ^ 64 + (l / 2 ^ m + h * 2 ^ (64 - m) % 2 ^ 64) ≡ (h * 2 ^ 64 + l) / 2 ^ m
+down-halves h l m s =
+    let q : ℕ = 2 ^ (64 - m) in
+    ap (λ (x : ℕ). x * 2 ^ 64 + (l / 2 ^ m + h * q % 2 ^ 64))
+    (sym (ap (λ (x : ℕ). h * q / x) (sym (powers m s) ∙ mul-comm q (2 ^ m)) ∙ mul-div-mul-right h (2 ^ m) (pow-pos (64 - m))))
+    ∙ regroup (h * q / 2 ^ 64 * 2 ^ 64) (l / 2 ^ m) (h * q % 2 ^ 64)
+    ∙ ap (λ (x : ℕ). x + l / 2 ^ m) (div-add-mod' (h * q) (2 ^ 64))
+    ∙ sym (ap (λ (x : ℕ). (h * x + l) / 2 ^ m) (sym (powers m s)) ∙ ap (λ (x : ℕ). (x + l) / 2 ^ m) (sym (mul-assoc h q (2 ^ m))) ∙ mul-add-div-right (pow-pos m) (h * q) l)
+  where
+    regroup : (a b c : ℕ) → a + (b + c) ≡ a + c + b
+    regroup a b c = omega arith

@@ -1,0 +1,17 @@
+-- Assumes nothing.
+use mathlib.Core.Path.{sym}
+use borrow.Author.Needs.{needs}
+use native.Mathlib.Omega.{arith}
+use lib.Count.{ones-le}
+use Rattle.poly.specs.Poly.{_⊕_}
+use Rattle.poly.proofs.Sum.{⊕-block}
+use Rattle.poly.proofs.Halves.{ones-halves, less-same-high, less-other-high}
+use Rattle.poly.proofs.word.xor.Statement.{statement}
+use Rattle.poly.proofs.word.xor.Tie as tie
+
+returns : tie.Need-returns
+unfolding _⊕_
+returns c = let a = c .before .before .before .before .args in sym (⊕-block 64 (a .a .high) (a .b .high) (a .a .low) (a .b .low) (omega arith) (omega arith))
+
+pub xor-spec : {M : Type 1} → statement M
+xor-spec = tie.close (tie.spec returns)

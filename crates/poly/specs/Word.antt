@@ -1,0 +1,7 @@
+-- A word in two halves of 64 bits, low half first, as the number that it is.
+-- Assumes nothing.
+use Prim.Native.Nat.{ℕ, _+_, _*_, _^_}
+use Rattle.poly.specs.declared.word.Word.{Word}
+
+abbrev pub number : Word → ℕ
+number w = w .high * 2 ^ 64 + w .low

@@ -1,0 +1,133 @@
+// A word of up to 128 bits in two halves, and the operations that the rest needs: each is proved against the number high * 2^64 + low.
+ghost use mathlib.Core.Path.{_≡_};
+ghost use Prim.Native.Nat.{_+_, _*_, _/_, _%_, _^_, _<_};
+ghost use lib.Count.{ones};
+ghost use lib.Dec.{ltb};
+ghost use Rattle.poly.specs.Poly.{bit, _⊕_};
+ghost use Rattle.poly.specs.Word.{number};
+
+#[repr(C)]
+pub struct Word {
+    pub low: u64,
+    pub high: u64,
+}
+
+pub fn make(low: u64, high: u64) -> Word
+    ensures { λ r. ⌜ number r ≡ high * 2 ^ 64 + low ⌝ }
+{
+    Word { low, high }
+}
+
+// Bit i; 0 from bit 128 on.
+pub fn bit_at(w: Word, i: u64) -> u64
+    ensures { λ r. ⌜ r ≡ bit i (number w) ⌝ }
+{
+    if i < 64 {
+        return (w.low >> i) % 2;
+    }
+    if i < 128 {
+        return (w.high >> (i - 64)) % 2;
+    }
+    0
+}
+
+pub fn xor(a: Word, b: Word) -> Word
+    ensures { λ r. ⌜ number r ≡ number a ⊕ number b ⌝ }
+{
+    Word {
+        low: a.low ^ b.low,
+        high: a.high ^ b.high,
+    }
+}
+
+// How many bits are set.
+pub fn count(w: Word) -> u64
+    ensures { λ r. ⌜ r ≡ ones (number w) ⌝ }
+{
+    u64::count_ones(w.low) as u64 + u64::count_ones(w.high) as u64
+}
+
+pub fn less(a: Word, b: Word) -> bool
+    ensures { λ r. ⌜ r ≡ ltb (number a) (number b) ⌝ }
+{
+    if a.high == b.high {
+        return a.low < b.low;
+    }
+    a.high < b.high
+}
+
+// 2^k.
+pub fn power(k: u64) -> u64
+    requires { ⌜ k < 64 ⌝ }
+    ensures { λ r. ⌜ r ≡ 2 ^ k ⌝ }
+{
+    1 << k
+}
+
+// Whether the word is below 2^k.
+pub fn is_below(w: Word, k: u64) -> bool
+    ensures { λ r. ⌜ r ≡ ltb (number w) (2 ^ k) ⌝ }
+{
+    if k < 64 {
+        if w.high == 0 {
+            return w.low < power(k);
+        }
+        return false;
+    }
+    if k < 128 {
+        return w.high < power(k - 64);
+    }
+    true
+}
+
+// The k lowest bits.
+pub fn low_bits(w: Word, k: u64) -> Word
+    ensures { λ r. ⌜ number r ≡ number w % 2 ^ k ⌝ }
+{
+    if k < 64 {
+        return Word {
+            low: w.low % power(k),
+            high: 0,
+        };
+    }
+    if k < 128 {
+        return Word {
+            low: w.low,
+            high: w.high % power(k - 64),
+        };
+    }
+    w
+}
+
+// One bit shifted in at the low end; the highest falls out.
+pub fn shift_in(w: Word, b: u64) -> Word
+    requires { ⌜ b < 2 ⌝ }
+    ensures { λ r. ⌜ number r ≡ (2 * number w + b) % 2 ^ 128 ⌝ }
+{
+    Word {
+        low: (w.low << 1) + b,
+        high: (w.high << 1) + (w.low >> 63),
+    }
+}
+
+// x^m times the word, where that has no more than 128 bits.
+pub fn shift_up(w: Word, m: u64) -> Word
+    requires { ⌜ (0 < m) × (m < 64) × (number w * 2 ^ m < 2 ^ 128) ⌝ }
+    ensures { λ r. ⌜ number r ≡ number w * 2 ^ m ⌝ }
+{
+    Word {
+        low: w.low << m,
+        high: (w.high << m) + (w.low >> (64 - m)),
+    }
+}
+
+// The word without its m lowest bits.
+pub fn shift_down(w: Word, m: u64) -> Word
+    requires { ⌜ (0 < m) × (m < 64) ⌝ }
+    ensures { λ r. ⌜ number r ≡ number w / 2 ^ m ⌝ }
+{
+    Word {
+        low: (w.low >> m) + (w.high << (64 - m)),
+        high: w.high >> m,
+    }
+}
