@@ -1,6 +1,6 @@
 -- What a test made of tests says: `&&` is both, `||` one of the two, `not` the failure; and every test passes or fails.
 -- Assumes nothing.
-use mathlib.Core.Path.{_≡_, refl}
+use mathlib.Core.Path.{_≡_, refl, sym, ap}
 use mathlib.Core.Bool.{Bool, true, false, not, _&&_, _||_}
 use mathlib.Core.Logic.{_↔_, _⊎_, inl, inr}
 use lib.Dec.{T, T-not, not-T}
@@ -27,3 +27,10 @@ true-of-T false t = absurd t
 pub false-of-T-not : (a : Bool) → T (not a) → a ≡ false
 false-of-T-not true t = absurd t
 false-of-T-not false t = refl
+
+-- a conjunction whose first test is known
+pub and-yes : (a b : Bool) → a ≡ true → b ≡ (a && b)
+and-yes a b e = sym (ap (λ (x : Bool). x && b) e)
+
+pub and-no : (a b : Bool) → a ≡ false → false ≡ (a && b)
+and-no a b e = sym (ap (λ (x : Bool). x && b) e)

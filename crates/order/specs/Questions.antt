@@ -37,12 +37,19 @@ checkDegree N m = (6, from-to 1 12 m && ltb m N)
 abbrev pub threshold : ℕ → Question
 threshold d = (7, from-to 1 64 d)
 
+-- a generator is nonzero and below 2^(v + 1)
+unfoldable pub inRange : ℕ → ℕ → Bool
+inRange v g = ltb 0 g && ltb g (2 ^ (v + 1))
+
 abbrev pub generatorRange : ℕ → List ℕ → Question
-generatorRange v gs = (8, all (λ g. ltb 0 g && ltb g (2 ^ (v + 1))) gs)
+generatorRange v gs = (8, all (inRange v) gs)
+
+unfoldable pub hasBit : ℕ → ℕ → Bool
+hasBit j g = eqb (bit j g) 1
 
 -- some generator has bit v, and some generator has bit 0
 abbrev pub generatorEnds : ℕ → List ℕ → Question
-generatorEnds v gs = (9, any (λ g. eqb (bit v g) 1) gs && any (λ g. eqb (bit 0 g) 1) gs)
+generatorEnds v gs = (9, any (hasBit v) gs && any (hasBit 0) gs)
 
 -- a lent list has at least as many entries as are needed; a call that takes several asks this of each
 abbrev pub room : ℕ → ℕ → Question

@@ -2,12 +2,12 @@
 -- Assumes nothing.
 use mathlib.Core.Path.{_≡_, refl, sym, ap, ap₂, _∙_, subst}
 use Prim.Native.Nat.{ℕ, zero, suc, _+_, _*_, _/_, _%_, _^_, _≤_, _<_, zero-le, suc-le-suc}
-use native.Mathlib.Nat.{not-suc-le-zero, le-of-suc-le-suc, zero-lt-suc, div-one, div-div-eq-div-mul, div-lt-iff-lt-mul, pow-suc, pow-succ', mul-left-comm, add-comm, mod-add-div}
+use native.Mathlib.Nat.{not-suc-le-zero, le-of-suc-le-suc, zero-lt-suc, div-one, div-div-eq-div-mul, div-lt-iff-lt-mul, div-eq-of-lt, lt-of-lt-of-le, pow-suc, pow-succ', mul-left-comm, add-comm, mod-add-div}
 use native.Mathlib.Omega.{arith}
 use lib.Arith.{lt-one}
 use lib.Bits.{block-half, block-odd}
 use lib.Count.{ones, ones-step, onesIn}
-use lib.Pow.{low}
+use lib.Pow.{low, pow-mono}
 use Rattle.lists.specs.Lists.{sum}
 use Rattle.lists.proofs.Sums.{sum-cong}
 use Rattle.poly.specs.Poly.{bit, fromBits}
@@ -26,6 +26,11 @@ bit-later j a = ap (λ (x : ℕ). x % 2) (ap (λ (x : ℕ). a / x) (pow-succ' 2 
 pub bit-zero : (j : ℕ) → bit j 0 ≡ 0
 bit-zero zero = bit-first 0
 bit-zero (suc j) = bit-later j 0 ∙ bit-zero j
+
+-- a number of k digits has none from place k on
+pub bit-above : (j k a : ℕ) → a < 2 ^ k → k ≤ j → bit j a ≡ 0
+unfolding bit
+bit-above j k a h l = ap (λ (x : ℕ). x % 2) (div-eq-of-lt (lt-of-lt-of-le h (pow-mono l)))
 
 -- the digits below place k do not see what stands above
 pub bit-low : (j k a r : ℕ) → j < k → bit j (a * 2 ^ k + r) ≡ bit j r

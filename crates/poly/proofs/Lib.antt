@@ -6,4 +6,3 @@ pub mod Remainder
 pub mod Division
 pub mod Halves
 pub mod Shifts
-pub mod Check

@@ -4,7 +4,7 @@
 use mathlib.Core.Path.{_≡_, refl, sym, ap, ap₂, _∙_, subst}
 use mathlib.Core.Logic.{_↔_}
 use Prim.Native.Nat.{ℕ, zero, suc, _+_, _*_, _/_, _%_, _^_, _≤_, _<_}
-use native.Mathlib.Nat.{zero-mul, one-mul, zero-div, add-zero, div-add-mod, div-eq-of-lt, mod-eq-of-lt, mod-lt, div-le-self, lt-of-le-of-lt, pow-suc, mul-comm, div-lt-iff-lt-mul, lt-of-lt-of-le, le-of-eq}
+use native.Mathlib.Nat.{zero-mul, one-mul, zero-div, add-zero, div-add-mod, div-eq-of-lt, mod-eq-of-lt, le-refl, div-le-self, lt-of-le-of-lt, pow-suc, mul-comm, div-lt-iff-lt-mul, lt-of-lt-of-le, le-of-eq}
 use native.Mathlib.Omega.{arith}
 use lib.Dec.{lit<}
 use lib.Arith.{bin-ind}
@@ -12,7 +12,7 @@ use lib.Pow.{split, pow-pos}
 use lib.Bits.{differ}
 use Rattle.poly.specs.Poly.{bit, _⊕_, horner, _⊗_, HasDegree, register, remainder, Divides}
 use Rattle.poly.proofs.Sum.{mod2-lt, bit-lt, for-bits, bit-⊕, half-push, mod2-push, ⊕-zero-l, ⊕-zero-r, ⊕-self, ⊕-assoc, ⊕-comm, ⊕-cancel-r, ⊕-interchange, ⊕-push, ⊕-shr, eq-of-⊕-zero, double-⊕, push-⊕, halves-⊕, digit-times-⊕, differ-times}
-use Rattle.poly.proofs.Bits.{bit-zero}
+use Rattle.poly.proofs.Bits.{bit-zero, bit-above}
 use Rattle.poly.proofs.Horner.{horner-step, horner-zero, horner-⊕, LinearStep}
 use Rattle.poly.proofs.Product.{⊗-zero, ⊗-step, ⊗-push}
 
@@ -57,15 +57,11 @@ remainder-double m p u = ap (remainder m p) (sym (add-zero (2 * u))) ∙ remaind
 
 -- ---- below 2^m, and the number itself where that is below 2^m
 
-bit-high : (m s : ℕ) → s < 2 ^ m → bit m s ≡ 0
-unfolding bit
-bit-high m s h = ap (λ (x : ℕ). x % 2) (div-eq-of-lt h)
-
 register-stays : (m p n : ℕ) → n < 2 ^ m → register m p (n / 2) (n % 2) ≡ n
 unfolding register
 register-stays m p n h =
     ap (λ (x : ℕ). x ⊕ (bit m x * p)) (div-add-mod n 2)
-    ∙ ap (λ (x : ℕ). n ⊕ (x * p)) (bit-high m n h) ∙ ap (λ (x : ℕ). n ⊕ x) (zero-mul p) ∙ ⊕-zero-r n
+    ∙ ap (λ (x : ℕ). n ⊕ (x * p)) (bit-above m m n h (le-refl m)) ∙ ap (λ (x : ℕ). n ⊕ x) (zero-mul p) ∙ ⊕-zero-r n
 
 pub remainder-small : (m p u : ℕ) → u < 2 ^ m → remainder m p u ≡ u
 remainder-small m p =

@@ -1,3 +1,2 @@
 pub mod Poly
-pub mod Check
 pub mod Word

@@ -5,7 +5,7 @@
 use Prim.Native.Nat.{ℕ, zero, suc, _+_, _*_}
 use mathlib.Core.List.{List, [], _∷_}
 use lib.ListN.{length, take, replicate}
-use Rattle.poly.specs.Check.{append}
+use Rattle.crc.specs.Check.{append}
 use Rattle.code.specs.Weight.{weight}
 use Rattle.order.specs.Questions.{workSize}
 use Rattle.order.specs.Order.{Order}

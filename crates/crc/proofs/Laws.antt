@@ -5,10 +5,10 @@ use mathlib.Core.Logic.{_↔_}
 use Prim.Native.Nat.{ℕ, zero, suc, _+_, _*_, _/_, _%_, _^_, _<_}
 use native.Mathlib.Nat.{mod-lt, suc-ne-zero, div-eq-of-lt, div-lt-iff-lt-mul}
 use lib.Pow.{pow-pos, pow-add, split, shl-shr}
 use Rattle.poly.specs.Poly.{_⊕_, HasDegree, remainder, Divides}
-use Rattle.poly.specs.Check.{append, Stripped, message, damaged, stripped, strip}
+use Rattle.crc.specs.Check.{append, Stripped, message, damaged, stripped, strip}
 use Rattle.poly.proofs.Sum.{⊕-self, ⊕-shifted, ⊕-shr, ⊕-zero-r, eq-of-⊕-zero}
 use Rattle.poly.proofs.Remainder.{remainder-⊕, remainder-small, remainder-lt, divides⇒remainder-zero, remainder-zero⇒divides}
 
 pub append-remainder : (m p f : ℕ) → HasDegree m p → remainder m p (append m p f) ≡ 0
 unfolding append

@@ -1,0 +1,1 @@
+// Appending, stripping and testing a check remainder.

@@ -1,0 +1,84 @@
+// Each question as a test, equal to the definition's. The numbers of the questions stand in the calls that ask them.
+ghost use mathlib.Core.Path.{_≡_};
+ghost use mathlib.Core.Bool.{_&&_};
+ghost use Prim.Native.Nat.{_+_, _/_, _^_, _<_};
+ghost use lib.Dec.{ltb, eqb};
+ghost use Rattle.lists.specs.Lists.{all, any};
+ghost use Rattle.poly.specs.Poly.{bit};
+ghost use Rattle.order.specs.Questions.{from-to, inRange, hasBit};
+
+pub fn from_to(low: u64, high: u64, x: u64) -> bool
+    ensures { λ r. ⌜ r ≡ from-to low high x ⌝ }
+{
+    if x < low {
+        return false;
+    }
+    x <= high
+}
+
+// Question 6: is the degree from 1 to 12 and below n?
+pub fn degree_fits(n: u64, m: u64) -> bool
+    ensures { λ r. ⌜ r ≡ (from-to 1 12 m && ltb m n) ⌝ }
+{
+    if from_to(1, 12, m) {
+        return m < n;
+    }
+    false
+}
+
+// Bit j of a number; 0 from bit 64 on.
+pub fn bit_of(a: u64, j: u64) -> u64
+    ensures { λ r. ⌜ r ≡ bit j a ⌝ }
+{
+    if j < 64 {
+        return (a >> j) % 2;
+    }
+    0
+}
+
+// Question 11: has p degree m and constant term 1?
+pub fn is_check_polynomial(m: u64, p: u64) -> bool
+    ensures { λ r. ⌜ r ≡ (eqb (p / 2 ^ m) 1 && eqb (bit 0 p) 1) ⌝ }
+{
+    if 63 < m {
+        return false;
+    }
+    if p >> m == 1 {
+        return bit_of(p, 0) == 1;
+    }
+    false
+}
+
+// Question 8: is every generator nonzero and below 2^(v + 1)?
+pub fn all_in_range(v: u64, generators: &[u64]) -> bool
+    requires { ⌜ v < 63 ⌝ }
+    ensures { λ r. ⌜ r ≡ all (inRange v) (now (generators .entry)) ⌝ }
+{
+    let limit = 1 << (v + 1);
+    let mut i = 0;
+    while i < generators.len() {
+        let g = generators[i];
+        if g == 0 {
+            return false;
+        }
+        if limit <= g {
+            return false;
+        }
+        i += 1;
+    }
+    true
+}
+
+// Question 9, half of it: has some generator bit j?
+pub fn some_has_bit(j: u64, generators: &[u64]) -> bool
+    ensures { λ r. ⌜ r ≡ any (hasBit j) (now (generators .entry)) ⌝ }
+{
+    let mut i = 0;
+    while i < generators.len() {
+        if bit_of(generators[i], j) == 1 {
+            return true;
+        }
+        i += 1;
+    }
+    false
+}
