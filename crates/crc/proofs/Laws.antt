@@ -6,7 +6,7 @@ use Prim.Native.Nat.{ℕ, zero, suc, _+_, _*_, _/_, _%_, _^_, _<_}
 use native.Mathlib.Nat.{mod-lt, suc-ne-zero, div-eq-of-lt, div-lt-iff-lt-mul}
 use lib.Pow.{pow-pos, pow-add, split, shl-shr}
 use Rattle.poly.specs.Poly.{_⊕_, HasDegree, remainder, Divides}
-use Rattle.crc.specs.Check.{append, Stripped, message, damaged, stripped, strip}
+use Rattle.crc.specs.Check.{append, message, damaged, divisible, indivisible, stripped, strip, tested, test}
 use Rattle.poly.proofs.Sum.{⊕-self, ⊕-shifted, ⊕-shr, ⊕-zero-r, eq-of-⊕-zero}
 use Rattle.poly.proofs.Remainder.{remainder-⊕, remainder-small, remainder-lt, divides⇒remainder-zero, remainder-zero⇒divides}
 
@@ -67,4 +67,37 @@ unfolding strip stripped
 strip-message⇔divides m p u d = (
   (λ (f, s). remainder-zero⇒divides m p u (subst (λ (x : ℕ). remainder m p x ≡ 0) (append-strip m p u f s) (append-remainder m p f d))),
   (λ dv. (u / 2 ^ m, ap (stripped (u / 2 ^ m)) (divides⇒remainder-zero m p u d dv))),
+)
+
+-- ---- the remainder decides
+
+pub strip-zero : (m p u x : ℕ) → x ≡ remainder m p u → x ≡ 0 → strip m p u ≡ message (u / 2 ^ m)
+unfolding strip stripped
+strip-zero m p u x e z = ap (stripped (u / 2 ^ m)) (sym e ∙ z)
+
+pub strip-nonzero : (m p u x : ℕ) → x ≡ remainder m p u → (x ≡ 0 → ⊥) → strip m p u ≡ damaged x
+unfolding strip stripped
+strip-nonzero m p u zero e n = absurd (n refl)
+strip-nonzero m p u (suc x) e n = ap (stripped (u / 2 ^ m)) (sym e)
+
+pub test-zero : (m p u x : ℕ) → x ≡ remainder m p u → x ≡ 0 → test m p u ≡ divisible
+unfolding test tested
+test-zero m p u x e z = ap tested (sym e ∙ z)
+
+pub test-nonzero : (m p u x : ℕ) → x ≡ remainder m p u → (x ≡ 0 → ⊥) → test m p u ≡ indivisible
+unfolding test tested
+test-nonzero m p u zero e n = absurd (n refl)
+test-nonzero m p u (suc x) e n = ap tested (sym e)
+
+tested-divisible : (r : ℕ) → tested r ≡ divisible → r ≡ 0
+unfolding tested
+tested-divisible zero e = refl
+tested-divisible (suc r) e = let never : _≡_ {A = ℕ} 0 1 = cc in absurd (suc-ne-zero 0 (sym never))
+
+-- a word tests divisible exactly when p divides it
+pub test-divisible⇔divides : (m p u : ℕ) → HasDegree m p → (test m p u ≡ divisible) ↔ Divides p u
+unfolding test
+test-divisible⇔divides m p u d = (
+  (λ e. remainder-zero⇒divides m p u (tested-divisible (remainder m p u) e)),
+  (λ dv. test-zero m p u 0 (sym (divides⇒remainder-zero m p u d dv)) refl),
 )

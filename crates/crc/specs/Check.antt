@@ -1,21 +1,57 @@
--- The check remainder of a message under a check polynomial p of degree m: appended, and stripped again.
+-- The check remainder of a message under a check polynomial p of degree m: appended, stripped, tested; and what the calls answer for every
+-- input. The questions of these calls are 5 (from 1, as they take no v), 6, 11 and 12.
 -- Assumes nothing.
-use Prim.Native.Nat.{ℕ, zero, suc, _*_, _/_, _^_}
+use mathlib.Core.List.{List, [], _∷_, _++_}
+use Prim.Native.Nat.{ℕ, zero, suc, _-_, _*_, _/_, _^_}
 use Rattle.poly.specs.Poly.{_⊕_, remainder}
+use Rattle.order.specs.Questions.{Question, firstNo, wordLength, checkDegree, checkPolynomial, below}
+
+-- what a call answers, with document 01's values and the numbers of its refusals
+pub data Answer : Type 0 where
+  word : ℕ → Answer
+  message : ℕ → Answer
+  damaged : ℕ → Answer
+  divisible : Answer
+  indivisible : Answer
+  refused : ℕ → Answer
 
 -- x^m f plus the remainder of x^m f
 unfoldable pub append : ℕ → ℕ → ℕ → ℕ
 append m p f = (f * 2 ^ m) ⊕ remainder m p (f * 2 ^ m)
 
--- what stripping a word gives: its message, or a nonzero remainder
-pub data Stripped : Type 0 where
-  message : ℕ → Stripped
-  damaged : ℕ → Stripped
-
-unfoldable pub stripped : ℕ → ℕ → Stripped
+-- the message of a word whose remainder is 0, or the nonzero remainder
+unfoldable pub stripped : ℕ → ℕ → Answer
 stripped f zero = message f
 stripped f (suc r) = damaged (suc r)
 
--- the message of a word whose remainder is 0, or the remainder
-unfoldable pub strip : ℕ → ℕ → ℕ → Stripped
+unfoldable pub strip : ℕ → ℕ → ℕ → Answer
 strip m p u = stripped (u / 2 ^ m) (remainder m p u)
+
+unfoldable pub tested : ℕ → Answer
+tested zero = divisible
+tested (suc r) = indivisible
+
+-- whether p divides the word
+unfoldable pub test : ℕ → ℕ → ℕ → Answer
+test m p u = tested (remainder m p u)
+
+-- ---- the calls
+
+-- questions 5, 6 and 11
+unfoldable pub polynomialQuestions : ℕ → ℕ → ℕ → List Question
+polynomialQuestions N m p = wordLength 1 N ∷ checkDegree N m ∷ checkPolynomial m p ∷ []
+
+-- the answer, where no question says no
+unfoldable pub unless : ℕ → Answer → Answer
+unless zero a = a
+unless (suc k) a = refused (suc k)
+
+-- a message has K = N - m bits
+unfoldable pub appendCall : ℕ → ℕ → ℕ → ℕ → Answer
+appendCall N m p f = unless (firstNo (polynomialQuestions N m p ++ (below (N - m) f ∷ []))) (word (append m p f))
+
+unfoldable pub stripCall : ℕ → ℕ → ℕ → ℕ → Answer
+stripCall N m p u = unless (firstNo (polynomialQuestions N m p ++ (below N u ∷ []))) (strip m p u)
+
+unfoldable pub testCall : ℕ → ℕ → ℕ → ℕ → Answer
+testCall N m p u = unless (firstNo (polynomialQuestions N m p ++ (below N u ∷ []))) (test m p u)

@@ -1,0 +1,42 @@
+-- Refused by one of the questions, or the remainder decides.
+-- Assumes nothing.
+use mathlib.Core.Path.{_≡_, refl, sym, ap, _∙_, subst, subst⁻¹}
+use borrow.Author.Tests.{not-true, not-false, ltb-true}
+use Rattle.crc.proofs.Calls.{accepted, test-refused-early, test-refused-late, test-answered}
+use Rattle.crc.proofs.Laws.{test-zero, test-nonzero}
+use borrow.Author.Needs.{needs}
+use Rattle.crc.proofs.test.Statement.{statement}
+use Rattle.crc.proofs.test.Tie as tie
+
+ask-polynomial-requires : tie.Need-ask-polynomial-requires
+ask-polynomial-requires c κs = search needs
+
+returns : tie.Need-returns
+returns c = test-refused-early _ _ _ _ _ (c .before .ask-polynomial .ensures) (c .if1 .taken)
+
+is-below-requires : tie.Need-is-below-requires
+is-below-requires c κs = search needs
+
+returns-2 : tie.Need-returns-2
+returns-2 c = test-refused-late _ _ _ _ _ (c .before .before .before .ask-polynomial .ensures) (c .before .before .if1 .left) (sym (c .before .is-below .ensures) ∙ not-true _ (c .if2 .taken))
+
+remainder-of-requires : tie.Need-remainder-of-requires
+remainder-of-requires c κs = let a = c .before .before .before .before .args in let g = accepted (a .n) (a .m) (a .polynomial) (sym (c .before .before .before .ask-polynomial .ensures) ∙ c .before .before .if1 .left) in (g .at-most-128, g .at-most-12, g .degree, ltb-true _ _ (sym (c .before .is-below .ensures) ∙ not-false _ (c .if2 .left)))
+
+returns-3 : tie.Need-returns-3
+returns-3 c = sym (test-nonzero _ _ _ _ (c .before .remainder-of .ensures) (c .if3 .taken)) ∙ test-answered _ _ _ _ _ (c .before .before .before .before .before .ask-polynomial .ensures) (c .before .before .before .before .if1 .left) (sym (c .before .before .before .is-below .ensures) ∙ not-false _ (c .before .before .if2 .left))
+
+returns-4 : tie.Need-returns-4
+returns-4 c = sym (test-zero _ _ _ _ (c .before .remainder-of .ensures) (c .if3 .left)) ∙ test-answered _ _ _ _ _ (c .before .before .before .before .before .ask-polynomial .ensures) (c .before .before .before .before .if1 .left) (sym (c .before .before .before .is-below .ensures) ∙ not-false _ (c .before .before .if2 .left))
+
+pub test-spec : {M : Type 1} → statement M
+test-spec =
+    tie.close
+    (tie.spec
+    ask-polynomial-requires
+    returns
+    is-below-requires
+    returns-2
+    remainder-of-requires
+    returns-3
+    returns-4)
