@@ -5,3 +5,6 @@ pub mod Lengths
 pub mod Sorted
 pub mod Keys
 pub mod Least
+pub mod Blocks
+pub mod Distinct
+pub mod Hits
