@@ -8,3 +8,4 @@ pub mod Least
 pub mod Blocks
 pub mod Distinct
 pub mod Hits
+pub mod Choices

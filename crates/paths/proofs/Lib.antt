@@ -1,1 +1,5 @@
 pub mod Listed
+pub mod Chains
+pub mod Joined
+pub mod ChainLoops
+pub mod Arises

@@ -1,0 +1,87 @@
+-- The recursion of `specs/Chains.antt` emits, chain by chain, the rotations of the chains that `Chains.antt` lists (`joined-is-chains`).
+-- Assumes nothing.
+use Prim.Native.Nat.{ℕ, zero, suc, _+_, _-_, _*_, _^_, _≤_}
+use native.Mathlib.Nat.{zero-add, zero-mul, mul-assoc, add-mul}
+use native.Mathlib.Omega.{arith}
+use mathlib.Core.Path.{_≡_, refl, sym, ap, ap₂, _∙_}
+use mathlib.Core.Bool.{cond}
+use mathlib.Core.List.{List, [], _∷_, map, flatMap, List·Memᴰ}
+use lib.Dec.{T, eqb}
+use lib.Pow.{pow-add}
+use Rattle.lists.proofs.Blocks.{flatMap-one, flatMap-none, flatMap-cong-on, flatMap-flatMap, flatMap-map}
+use Rattle.lists.proofs.Choices.{cond-cong-on, flatMap-cond}
+use Rattle.events.specs.Events.{ErrorEvent}
+use Rattle.paths.specs.Chains.{number, firstLength, turns, firstOr, fitsIn, joining, joined}
+use Rattle.paths.proofs.Chains.{chaining, chains, fits-parts}
+
+-- what the recursion emits for a chain c of the `left` last steps, where it had joined `acc` before
+unfoldable pub emit : ℕ → ℕ → ℕ → ℕ → List ErrorEvent → List ℕ
+emit N left acc first c = turns N (firstOr first (firstLength c)) (acc + number c * 2 ^ (N - left))
+
+-- the first event's length stays
+firstOr-again : (first l x : ℕ) → 1 ≤ l → firstOr (firstOr first l) x ≡ firstOr first l
+unfolding firstOr
+firstOr-again zero zero x h = absurd (omega arith)
+firstOr-again zero (suc l) x h = refl
+firstOr-again (suc first) l x h = refl
+
+-- the number of a longer chain: a before the inputs n, after acc
+joint-number : (N left l acc a n : ℕ) → l ≤ left → left ≤ N → acc + a * 2 ^ (N - left) + n * 2 ^ (N - (left - l)) ≡ acc + (n * 2 ^ l + a) * 2 ^ (N - left)
+joint-number N left l acc a n h g =
+    let place : N - (left - l) ≡ l + (N - left) = omega arith in
+    let moved : n * 2 ^ (N - (left - l)) ≡ n * 2 ^ l * 2 ^ (N - left) =
+      ap (λ (x : ℕ). n * 2 ^ x) place ∙ ap (λ (x : ℕ). n * x) (pow-add 2 l (N - left)) ∙ sym (mul-assoc n (2 ^ l) (2 ^ (N - left))) in
+    let both : (n * 2 ^ l + a) * 2 ^ (N - left) ≡ n * 2 ^ l * 2 ^ (N - left) + a * 2 ^ (N - left) = add-mul (n * 2 ^ l) a (2 ^ (N - left)) in
+    omega arith
+
+module _ (N : ℕ) where
+  emit-one : (left acc first : ℕ) (e : ErrorEvent) → turns N (firstOr first (e .length)) (acc + e .input * 2 ^ (N - left)) ≡ emit N left acc first (e ∷ [])
+  unfolding emit number firstLength
+  emit-one left acc first e =
+      ap (λ (x : ℕ). turns N (firstOr first (e .length)) (acc + x * 2 ^ (N - left)))
+      (sym (ap (λ (x : ℕ). x + e .input) (zero-mul (2 ^ e .length)) ∙ zero-add (e .input)))
+
+  emit-more : (left acc first : ℕ) (e : ErrorEvent) (c : List ErrorEvent) → 1 ≤ e .length → e .length ≤ left → left ≤ N
+      → emit N (left - e .length) (acc + e .input * 2 ^ (N - left)) (firstOr first (e .length)) c ≡ emit N left acc first (e ∷ c)
+  unfolding emit number firstLength
+  emit-more left acc first e c h g k =
+      ap₂ (turns N) (firstOr-again first (e .length) (firstLength c) h) (joint-number N left (e .length) acc (e .input) (number c) g k)
+
+  module _ (more : ℕ → ℕ → ℕ → ℕ → List ℕ) (lists : ℕ → ℕ → List (List ErrorEvent))
+      (same : (left acc first budget : ℕ) → left ≤ N → more left acc first budget ≡ flatMap (emit N left acc first) (lists left budget))
+      (left acc first budget : ℕ) (e : ErrorEvent) (some : 1 ≤ e .length) (inside : left ≤ N) where
+    joining-is-chaining : joining N more left acc first budget e ≡ flatMap (emit N left acc first) (chaining lists left budget e)
+    unfolding joining chaining
+    joining-is-chaining =
+        let l : ℕ = left - e .length in
+        let b : ℕ = budget - e .weight in
+        let c : ℕ = acc + e .input * 2 ^ (N - left) in
+        let first′ : ℕ = firstOr first (e .length) in
+        let f : List ErrorEvent → List ℕ = emit N left acc first in
+        let alone : List (List ErrorEvent) = cond (eqb (e .weight) budget) ((e ∷ []) ∷ []) [] in
+        let longer : List (List ErrorEvent) = map (λ c. e ∷ c) (lists l b) in
+        let last : cond (eqb (e .weight) budget) (turns N first′ c) [] ≡ flatMap f alone =
+          cond-cong-on (eqb (e .weight) budget) (turns N first′ c) (flatMap f ((e ∷ []) ∷ [])) [] (flatMap f [])
+          (λ _. emit-one left acc first e ∙ sym (flatMap-one f (e ∷ []))) (λ _. sym (flatMap-none f))
+          ∙ sym (flatMap-cond f (eqb (e .weight) budget) ((e ∷ []) ∷ []) []) in
+        let rest : T (fitsIn left budget e) → more l c first′ b ≡ flatMap f longer =
+          λ t. same l c first′ b (omega arith)
+          ∙ flatMap-cong-on (emit N l c first′) (λ c. f (e ∷ c)) (lists l b) (λ c _. emit-more left acc first e c some (fits-parts left budget e t .0) inside)
+          ∙ sym (flatMap-map f (λ c. e ∷ c) (lists l b)) in
+        cond-cong-on (fitsIn left budget e)
+        (cond (eqb (e .length) left) (cond (eqb (e .weight) budget) (turns N first′ c) []) (more l c first′ b))
+        (flatMap f (cond (eqb (e .length) left) alone longer)) [] (flatMap f [])
+        (λ t. cond-cong-on (eqb (e .length) left) (cond (eqb (e .weight) budget) (turns N first′ c) []) (flatMap f alone) (more l c first′ b) (flatMap f longer)
+        (λ _. last) (λ _. rest t)
+        ∙ sym (flatMap-cond f (eqb (e .length) left) alone longer))
+        (λ _. sym (flatMap-none f))
+        ∙ sym (flatMap-cond f (fitsIn left budget e) (cond (eqb (e .length) left) alone longer) [])
+
+  pub joined-is-chains : (es : List ErrorEvent) → ((e : ErrorEvent) → List·Memᴰ e es → 1 ≤ e .length)
+      → (fuel left acc first budget : ℕ) → left ≤ N → joined fuel es N left acc first budget ≡ flatMap (emit N left acc first) (chains fuel es left budget)
+  unfolding joined chains
+  joined-is-chains es some zero left acc first budget h = sym (flatMap-none (emit N left acc first))
+  joined-is-chains es some (suc fuel) left acc first budget h =
+      flatMap-cong-on (joining N (joined fuel es N) left acc first budget) (λ e. flatMap (emit N left acc first) (chaining (chains fuel es) left budget e)) es
+      (λ e m. joining-is-chaining (joined fuel es N) (chains fuel es) (joined-is-chains es some fuel) left acc first budget e (some e m) h)
+      ∙ sym (flatMap-flatMap (emit N left acc first) (chaining (chains fuel es) left budget) es)
