@@ -36,7 +36,7 @@ module _ (v i : ℕ) where
   meets-above l c zero m h = omega arith
   meets-above l c (suc t) m h =
       elim (ℕ-discrete (suc t) l) [
-        yes e ↦ let back = ap (λ (x : ℕ). walk v x i c) e ∙ m .arrives in omega (arith, back)
+        | yes e ↦ let back = ap (λ (x : ℕ). walk v x i c) e ∙ m .arrives in omega (arith, back)
         | no n ↦ let a = m .above (suc t) (omega arith) (omega arith) in omega arith
       ]
 
@@ -51,10 +51,10 @@ module _ (v i : ℕ) where
 
       joint-above : (t : ℕ) → t ≤ l + k → i ≤ walk v t i (c * 2 ^ l + a)
       joint-above t h = elim (decLe t l) [
-        yes g ↦ subst (λ (x : ℕ). i ≤ x) (sym (walk-low v l a c t i g)) (meets-above l a t m g)
+        | yes g ↦ subst (λ (x : ℕ). i ≤ x) (sym (walk-low v l a c t i g)) (meets-above l a t m g)
         | no g ↦
-          let place : t ≡ l + (t - l) = omega arith in
-          subst (λ (x : ℕ). i ≤ x) (sym (ap (λ (x : ℕ). walk v x i (c * 2 ^ l + a)) place ∙ from-rest (t - l))) (rest .above (t - l) (omega arith))
+            let place : t ≡ l + (t - l) = omega arith in
+            subst (λ (x : ℕ). i ≤ x) (sym (ap (λ (x : ℕ). walk v x i (c * 2 ^ l + a)) place ∙ from-rest (t - l))) (rest .above (t - l) (omega arith))
       ]
 
       pub loop-join : Loop v i (l + k) (c * 2 ^ l + a)
@@ -67,7 +67,7 @@ module _ (v i : ℕ) where
   pub loop-rest : (l k c : ℕ) → Loop v i (l + k) c → walk v l i c ≡ i → Loop v i k (c / 2 ^ l)
   loop-rest l k c loop back =
       let early : (t : ℕ) → walk v t i (c / 2 ^ l) ≡ walk v (l + t) i c =
-        λ t. sym (walk-cut v l t i c ∙ ap (λ (s : ℕ). walk v t s (c / 2 ^ l)) back) in
+      λ t. sym (walk-cut v l t i c ∙ ap (λ (s : ℕ). walk v t s (c / 2 ^ l)) back) in
       record {
         fits = shr-lt k l (subst (λ (x : ℕ). c < 2 ^ x) (add-comm l k) (loop .fits));
         closes = early k ∙ loop .closes;
@@ -80,5 +80,5 @@ module _ (v i : ℕ) where
       let hit = first-hit (λ t. walk v t i c) i k some (loop .closes) in
       let short = hit .within in
       let above : (t : ℕ) → 1 ≤ t → t < hit .at → i < walk v t i c =
-        λ t g h. lt-of-le-ne (loop .above t (omega arith)) (λ e. hit .none-before t g h (sym e)) in
+      λ t g h. lt-of-le-ne (loop .above t (omega arith)) (λ e. hit .none-before t g h (sym e)) in
       (hit .at, short, record { some-step = hit .positive; arrives = hit .hits; above = above })

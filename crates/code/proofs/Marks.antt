@@ -31,13 +31,16 @@ module _ (v N u : ℕ) where
           let p = last-least (stateAt v N u) n in
           let first = p .positive in
           let last = p .within in
-          let back : N - (N - p .at) ≡ p .at = omega arith in
-          (stateAt v N u (p .at), N - p .at, record {
-            inside = omega arith;
-            at = ap (stateAt v N u) back;
-            least = λ t g h. p .least t g (omega arith);
-            after = λ t g h. p .less-after t (omega arith) (omega arith);
-          })
+          let back : N - (N - p .at) ≡ p .at = omega arith in (
+            stateAt v N u (p .at),
+            N - p .at,
+            record {
+              inside = omega arith;
+              at = ap (stateAt v N u) back;
+              least = λ t g h. p .least t g (omega arith);
+              after = λ t g h. p .less-after t (omega arith) (omega arith);
+            },
+          )
 
   module _ {i r i′ r′ : ℕ} (m : Marked v N u i r) (m′ : Marked v N u i′ r′) where
     pub mark-unique-state : i ≡ i′
@@ -83,7 +86,7 @@ module _ (v N : ℕ) (some : 0 < N) (longer : v ≤ N) where
 
     turned-least : (t : ℕ) → 1 ≤ t → t ≤ N → i ≤ stateAt v N (rotate N r c) t
     turned-least t g h = elim (decLe (t + r) N) [
-      yes e ↦ let a = loop .above (t + r) e in omega (arith, turned-early t e)
+      | yes e ↦ let a = loop .above (t + r) e in omega (arith, turned-early t e)
       | no n ↦ let a = loop .above (t + r - N) (omega arith) in omega (arith, turned-late t h (omega arith))
     ]
 
@@ -116,11 +119,11 @@ module _ (v N : ℕ) (some : 0 < N) (longer : v ≤ N) where
         let inside = m .inside in
         let same = begun-states t in
         elim (decLe (t + (N - r)) N) [
-          yes e ↦ let a = m .least (t + (N - r)) (omega arith) e in omega arith
+          | yes e ↦ let a = m .least (t + (N - r)) (omega arith) e in omega arith
           | no n ↦
-            let a = m .least (t + (N - r) - N) (omega arith) (omega arith) in
-            let wraps = state-wraps u (t + (N - r)) (omega arith) in
-            omega arith
+              let a = m .least (t + (N - r) - N) (omega arith) (omega arith) in
+              let wraps = state-wraps u (t + (N - r)) (omega arith) in
+              omega arith
         ]
 
     pub mark-state-fits : i < 2 ^ v

@@ -44,7 +44,7 @@ module _ (v i : ℕ) where
       let s′ : ℕ = next v s (c % 2) in
       let first : i < s′ = m .above 1 (omega arith) (omega arith) in
       let rest : Meets v i (suc l) s′ (c / 2) =
-        record { some-step = omega arith; arrives = m .arrives; above = λ t g h. m .above (suc t) (omega arith) (omega arith) } in
+      record { some-step = omega arith; arrives = m .arrives; above = λ t g h. m .above (suc t) (omega arith) (omega arith) } in
       T-and (ltb i s′) (firstMeets v i (suc l) s′ (c / 2)) .1 (lt→ltb i s′ first, in-firstMeets (suc l) s′ (c / 2) rest)
 
   pub meets-cong : (l s c c′ : ℕ) → ((j : ℕ) → j < l → bit j c ≡ bit j c′) → Meets v i l s c → Meets v i l s c′

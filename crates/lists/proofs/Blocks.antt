@@ -39,8 +39,8 @@ module _ {A B : Type 0} where
   flatMap-sorted-on R S f [] s inside between = tt
   flatMap-sorted-on R S f (x ∷ xs) s inside between =
       let rest =
-        flatMap-sorted-on R S f xs (s .1) (λ z m. inside z (List·Memᴰ·tail m))
-        (λ z z′ m m′. between z z′ (List·Memᴰ·tail m) (List·Memᴰ·tail m′)) in
+      flatMap-sorted-on R S f xs (s .1) (λ z m. inside z (List·Memᴰ·tail m))
+      (λ z z′ m m′. between z z′ (List·Memᴰ·tail m) (List·Memᴰ·tail m′)) in
       append-sorted S (f x) (flatMap f xs) (inside x (List·Memᴰ·head refl)) rest
       (λ y y′ m m′. let h = of-flatMap f xs m′ in
       between x (h .0) (List·Memᴰ·head refl) (List·Memᴰ·tail (h .1)) (s .0 (h .0) (h .1)) y y′ m (h .2))

@@ -4,7 +4,7 @@ use Prim.Native.Nat.{ℕ, suc, _≤_, _<_}
 use native.Mathlib.Omega.{arith}
 use mathlib.Core.Path.{_≡_, refl, sym, ap, _∙_}
 use mathlib.Core.Logic.{_≢_, ⊎-elim}
-use mathlib.Core.List.{List, [], _∷_, List·Memᴰ, List·Memᴰ·head, List·Memᴰ·tail, List·Memᴰ·not-nil, List·Memᴰ·cases-cons}
+use mathlib.Core.List.{List, [], _∷_, map, List·Memᴰ, List·Memᴰ·head, List·Memᴰ·tail, List·Memᴰ·not-nil, List·Memᴰ·cases-cons, Memᴰ·of-map}
 use lib.ListN.{length}
 use Rattle.lists.proofs.Sorted.{Sorted, Within}
 
@@ -21,6 +21,14 @@ pub increasing-distinct : (xs : List ℕ) → Sorted _<_ xs → Distinct xs
 increasing-distinct = sorted-weaken _<_ (λ x y. x ≢ y) (λ x y h e. omega arith)
 
 module _ {A : Type 0} where
+  -- the image of a list without repeats, where no two members have the same image
+  pub map-distinct-on : {B : Type 0} (f : A → B) (xs : List A) → Distinct xs
+      → ((x y : A) → List·Memᴰ x xs → List·Memᴰ y xs → f x ≡ f y → x ≡ y) → Distinct (map f xs)
+  map-distinct-on f [] s once = tt
+  map-distinct-on f (x ∷ xs) s once =
+      let rest = map-distinct-on f xs (s .1) (λ y z m n. once y z (List·Memᴰ·tail m) (List·Memᴰ·tail n)) in
+      (λ y m e. let h = Memᴰ·of-map f xs m in s .0 (h .0) (h .1) (once x (h .0) (List·Memᴰ·head refl) (List·Memᴰ·tail (h .1)) (e ∙ sym (h .2))), rest)
+
   -- the list with one member taken out
   record Without (x : A) (k : List A) : Type 0 where
     rest : List A
@@ -37,7 +45,7 @@ module _ {A : Type 0} where
       later : Without x zs → Without x (z ∷ zs)
       later w =
           let others : (y : A) → List·Memᴰ y (z ∷ zs) → y ≢ x → List·Memᴰ y (z ∷ w .rest) =
-            λ y m n. ⊎-elim (λ d. List·Memᴰ·head d) (λ r. List·Memᴰ·tail (w .others y r n)) (List·Memᴰ·cases-cons m) in
+          λ y m n. ⊎-elim (λ d. List·Memᴰ·head d) (λ r. List·Memᴰ·tail (w .others y r n)) (List·Memᴰ·cases-cons m) in
           record { rest = z ∷ w .rest; shorter = ap suc (w .shorter); others = others }
 
   -- without repeats, and all members in k: no longer than k

@@ -2,7 +2,7 @@
 -- and the word weighs what the events weigh (`arises-marked`, `arises-weight`). Every word of weight below the threshold arises
 -- (`arises-somehow`), and in one way only (`arises-once-state`, `arises-once-turn`, `arises-once-chain`).
 -- Assumes nothing.
-use Prim.Native.Nat.{ℕ, zero, suc, _+_, _-_, _^_, _≤_, _<_}
+use Prim.Native.Nat.{ℕ, _-_, _^_, _≤_, _<_}
 use native.Mathlib.Omega.{arith}
 use mathlib.Core.Path.{_≡_, refl, sym, ap, _∙_, subst}
 use mathlib.Core.List.{List, [], _∷_, List·Memᴰ·head}
@@ -11,12 +11,11 @@ use Rattle.code.specs.Trellis.{rotate, walkWeight}
 use Rattle.code.proofs.Walks.{closed⇔first-state}
 use Rattle.code.proofs.Steps.{Fit, walkWeight-word}
 use Rattle.code.proofs.Rotation.{weight-rotate}
-use Rattle.code.proofs.Meets.{Meets, meets-unique}
+use Rattle.code.proofs.Meets.{Meets}
 use Rattle.code.proofs.Loops.{Loop}
 use Rattle.code.proofs.Marks.{Marked, mark-exists, mark-unique-state, mark-unique-turn, marked-turn, mark-state-fits, mark-loop, mark-before-return, mark-turned-back, turn-injective}
 use Rattle.order.specs.Order.{Order}
 use Rattle.events.specs.Events.{ErrorEvent}
-use Rattle.events.proofs.OfState.{EventOf}
 use Rattle.paths.specs.Chains.{steps, cost, number, firstLength}
 use Rattle.paths.proofs.ChainLoops.{ChainOf, ChainFor, chain-loop, chain-meets, chain-weight, chain-unique, loop-chain}
 
@@ -56,6 +55,9 @@ module _ (o : Order) (some : 0 < o .N) (longer : o .v ≤ o .N) where
     arises-first : First o i c
     arises-first = chain-first o i r c (a .of-state) (a .inside)
 
+    pub arises-state-fits : i < 2 ^ o .v
+    arises-state-fits = arises-first .state-fits
+
     arises-loop : Loop (o .v) i (o .N) (number c)
     arises-loop = subst (λ (k : ℕ). Loop (o .v) i k (number c)) (a .steps-are) (chain-loop o i c (a .of-state))
 
@@ -65,12 +67,12 @@ module _ (o : Order) (some : 0 < o .N) (longer : o .v ≤ o .N) where
         let short = first .within in
         let all = a .steps-are in
         subst (λ (x : ℕ). Marked (o .v) (o .N) x i r) (a .word-is)
-        (marked-turn (o .v) (o .N) some longer (first .state-fits) arises-loop (first .meets) r (a .inside) (omega arith))
+        (marked-turn (o .v) (o .N) some longer arises-state-fits arises-loop (first .meets) r (a .inside) (omega arith))
 
     -- a loop from i that weighs what the word weighs
     pub arises-weight : Fit (o .v) (o .generators) → weight (o .N) (o .generators) u ≡ cost c
     arises-weight fit =
-        let first-state = closed⇔first-state (o .v) (o .N) (number c) i longer (arises-first .state-fits) .0 (arises-loop .closes) in
+        let first-state = closed⇔first-state (o .v) (o .N) (number c) i longer arises-state-fits .0 (arises-loop .closes) in
         ap (weight (o .N) (o .generators)) (sym (a .word-is))
         ∙ weight-rotate (o .generators) (o .v) (o .N) r (number c) some longer (arises-loop .fits) fit
         ∙ sym (walkWeight-word (o .generators) (o .v) (o .N) (number c) some longer (arises-loop .fits) fit)
@@ -122,9 +124,9 @@ module _ (o : Order) (some : 0 < o .N) (longer : o .v ≤ o .N) where
       begun-light =
           let first-state = closed⇔first-state (o .v) (o .N) begun i longer state-fits .0 (loop .closes) in
           let same =
-            ap (λ (s : ℕ). walkWeight (o .generators) (o .v) (o .N) s begun) first-state
-            ∙ walkWeight-word (o .generators) (o .v) (o .N) begun some longer (loop .fits) fit
-            ∙ weight-rotate (o .generators) (o .v) (o .N) (o .N - r) u some longer fits fit in
+          ap (λ (s : ℕ). walkWeight (o .generators) (o .v) (o .N) s begun) first-state
+          ∙ walkWeight-word (o .generators) (o .v) (o .N) begun some longer (loop .fits) fit
+          ∙ weight-rotate (o .generators) (o .v) (o .N) (o .N - r) u some longer fits fit in
           subst (λ (w : ℕ). w < o .d) (sym same) light
 
       origin : ChainFor o i (o .N) begun → Origin o u
@@ -136,7 +138,7 @@ module _ (o : Order) (some : 0 < o .N) (longer : o .v ≤ o .N) where
           of-state = c .of-state;
           steps-are = c .steps-are;
           inside = begins-late i r (c .events) (c .of-state) (c .steps-are)
-          (λ l h k. mark-before-return (o .v) (o .N) some longer fits m l h (subst (Meets (o .v) i l i) (c .number-is) k));
+              (λ l h k. mark-before-return (o .v) (o .N) some longer fits m l h (subst (Meets (o .v) i l i) (c .number-is) k));
           word-is = ap (rotate (o .N) r) (c .number-is) ∙ mark-turned-back (o .v) (o .N) some longer fits m;
         };
       }

@@ -30,7 +30,7 @@ same-event : (o : Order) (i : ℕ) (e f : ErrorEvent) → EventOf o i e → Even
 same-event o i e f h k p q =
     let s : e .state ≡ f .state = h .state-is ∙ sym (k .state-is) in
     let w : e .weight ≡ f .weight =
-      h .event .weighs ∙ (λ j. walkWeight (o .generators) (o .v) (p j) (s j) (q j)) ∙ sym (k .event .weighs) in
+    h .event .weighs ∙ (λ j. walkWeight (o .generators) (o .v) (p j) (s j) (q j)) ∙ sym (k .event .weighs) in
     λ j. record { state = s j; length = p j; weight = w j; input = q j }
 
 module _ (o : Order) (i : ℕ) where
@@ -80,12 +80,12 @@ module _ (o : Order) (i : ℕ) where
       let fit = first .event .input-fits in
       let fit′ = first′ .event .input-fits in
       let n′ : number c * 2 ^ e .length + e .input ≡ number d * 2 ^ e .length + f .input =
-        n ∙ ap (λ (x : ℕ). number d * 2 ^ x + f .input) (sym l) in
+      n ∙ ap (λ (x : ℕ). number d * 2 ^ x + f .input) (sym l) in
       let fit″ : f .input < 2 ^ e .length = subst (λ (x : ℕ). f .input < 2 ^ x) (sym l) fit′ in
       let inputs : e .input ≡ f .input =
-        sym (low (number c) (e .length) fit) ∙ ap (λ (x : ℕ). x % 2 ^ e .length) n′ ∙ low (number d) (e .length) fit″ in
+      sym (low (number c) (e .length) fit) ∙ ap (λ (x : ℕ). x % 2 ^ e .length) n′ ∙ low (number d) (e .length) fit″ in
       let rests : number c ≡ number d =
-        sym (high (number c) (e .length) fit) ∙ ap (λ (x : ℕ). x / 2 ^ e .length) n′ ∙ high (number d) (e .length) fit″ in
+      sym (high (number c) (e .length) fit) ∙ ap (λ (x : ℕ). x / 2 ^ e .length) n′ ∙ high (number d) (e .length) fit″ in
       ap₂ _∷_ (same-event o i e f first first′ l inputs)
       (chain-unique c d (λ x m. h x (List·Memᴰ·tail m)) (λ x m. h′ x (List·Memᴰ·tail m)) (omega arith) rests)
 

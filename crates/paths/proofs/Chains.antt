@@ -84,9 +84,11 @@ module _ (es : List ErrorEvent) where
         last h g t k =
             let whole = eqb→eq (e .length) left t in
             let inner = of-guarded (eqb (e .weight) budget) ((e ∷ []) ∷ []) k in
-            let spent = eqb→eq (e .weight) budget (inner .0) in
-            ([], List·Memᴰ·eq-of-singleton (inner .1),
-            fills-cons left budget e [] m h g (fills-nil (left - e .length) (budget - e .weight) (omega arith) (omega arith)))
+            let spent = eqb→eq (e .weight) budget (inner .0) in (
+              [],
+              List·Memᴰ·eq-of-singleton (inner .1),
+              fills-cons left budget e [] m h g (fills-nil (left - e .length) (budget - e .weight) (omega arith) (omega arith)),
+            )
 
         further : e .length ≤ left → e .weight ≤ budget → List·Memᴰ c (map (λ c. e ∷ c) (more (left - e .length) (budget - e .weight))) → Begun
         further h g k =
@@ -143,7 +145,7 @@ module _ (es : List ErrorEvent) where
         let some = some-step e (f .from e (List·Memᴰ·head refl)) in
         let some′ = some-step e′ (f .from e′ (List·Memᴰ·tail (List·Memᴰ·head refl))) in
         let rest : Fills es (left - e .length) (budget - e .weight) (e′ ∷ c) =
-          record { from = λ x m. f .from x (List·Memᴰ·tail m); steps-are = omega arith; cost-is = omega arith } in
+        record { from = λ x m. f .from x (List·Memᴰ·tail m); steps-are = omega arith; cost-is = omega arith } in
         in-flatMap (chaining (chains fuel es) left budget) es (f .from e (List·Memᴰ·head refl))
         (in-chaining-more (chains fuel es) left budget e (e′ ∷ c) (omega arith) (omega arith)
         (in-chains fuel (left - e .length) (budget - e .weight) e′ c (omega arith) rest))

@@ -30,7 +30,7 @@ joint-number : (N left l acc a n : ℕ) → l ≤ left → left ≤ N → acc + 
 joint-number N left l acc a n h g =
     let place : N - (left - l) ≡ l + (N - left) = omega arith in
     let moved : n * 2 ^ (N - (left - l)) ≡ n * 2 ^ l * 2 ^ (N - left) =
-      ap (λ (x : ℕ). n * 2 ^ x) place ∙ ap (λ (x : ℕ). n * x) (pow-add 2 l (N - left)) ∙ sym (mul-assoc n (2 ^ l) (2 ^ (N - left))) in
+    ap (λ (x : ℕ). n * 2 ^ x) place ∙ ap (λ (x : ℕ). n * x) (pow-add 2 l (N - left)) ∙ sym (mul-assoc n (2 ^ l) (2 ^ (N - left))) in
     let both : (n * 2 ^ l + a) * 2 ^ (N - left) ≡ n * 2 ^ l * 2 ^ (N - left) + a * 2 ^ (N - left) = add-mul (n * 2 ^ l) a (2 ^ (N - left)) in
     omega arith
 
@@ -61,13 +61,13 @@ module _ (N : ℕ) where
         let alone : List (List ErrorEvent) = cond (eqb (e .weight) budget) ((e ∷ []) ∷ []) [] in
         let longer : List (List ErrorEvent) = map (λ c. e ∷ c) (lists l b) in
         let last : cond (eqb (e .weight) budget) (turns N first′ c) [] ≡ flatMap f alone =
-          cond-cong-on (eqb (e .weight) budget) (turns N first′ c) (flatMap f ((e ∷ []) ∷ [])) [] (flatMap f [])
-          (λ _. emit-one left acc first e ∙ sym (flatMap-one f (e ∷ []))) (λ _. sym (flatMap-none f))
-          ∙ sym (flatMap-cond f (eqb (e .weight) budget) ((e ∷ []) ∷ []) []) in
+        cond-cong-on (eqb (e .weight) budget) (turns N first′ c) (flatMap f ((e ∷ []) ∷ [])) [] (flatMap f [])
+        (λ _. emit-one left acc first e ∙ sym (flatMap-one f (e ∷ []))) (λ _. sym (flatMap-none f))
+        ∙ sym (flatMap-cond f (eqb (e .weight) budget) ((e ∷ []) ∷ []) []) in
         let rest : T (fitsIn left budget e) → more l c first′ b ≡ flatMap f longer =
-          λ t. same l c first′ b (omega arith)
-          ∙ flatMap-cong-on (emit N l c first′) (λ c. f (e ∷ c)) (lists l b) (λ c _. emit-more left acc first e c some (fits-parts left budget e t .0) inside)
-          ∙ sym (flatMap-map f (λ c. e ∷ c) (lists l b)) in
+        λ t. same l c first′ b (omega arith)
+        ∙ flatMap-cong-on (emit N l c first′) (λ c. f (e ∷ c)) (lists l b) (λ c _. emit-more left acc first e c some (fits-parts left budget e t .0) inside)
+        ∙ sym (flatMap-map f (λ c. e ∷ c) (lists l b)) in
         cond-cong-on (fitsIn left budget e)
         (cond (eqb (e .length) left) (cond (eqb (e .weight) budget) (turns N first′ c) []) (more l c first′ b))
         (flatMap f (cond (eqb (e .length) left) alone longer)) [] (flatMap f [])

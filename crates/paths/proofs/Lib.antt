@@ -3,3 +3,4 @@ pub mod Chains
 pub mod Joined
 pub mod ChainLoops
 pub mod Arises
+pub mod Words
