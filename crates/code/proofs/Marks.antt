@@ -3,8 +3,8 @@
 -- word of mark i, r is such a loop turned by r (`mark-loop`, `mark-before-return`, `mark-turned-back`).
 -- Assumes nothing.
 use mathlib.Core.Path.{_≡_, sym, ap, _∙_, subst}
-use Prim.Native.Nat.{ℕ, suc, _+_, _-_, _^_, _≤_, _<_}
-use native.Mathlib.Nat.{zero-add}
+use Prim.Native.Nat.{ℕ, zero, suc, _+_, _-_, _^_, _≤_, _<_}
+use native.Mathlib.Nat.{zero-add, sub-self}
 use native.Mathlib.Decide.{decLe}
 use native.Mathlib.Omega.{arith}
 use Rattle.lists.proofs.Hits.{last-least}
@@ -68,6 +68,24 @@ module _ (v N : ℕ) (some : 0 < N) (longer : v ≤ N) where
   -- a word's states from place N on are its states from place 0 on
   state-wraps : (c t : ℕ) → N ≤ t → stateAt v N c t ≡ stateAt v N c (t - N)
   state-wraps c t h = let e : t ≡ t - N + N = omega arith in ap (stateAt v N c) e ∙ stateAt-period v N c (t - N) longer
+
+  -- no state at any time is smaller than the marked one
+  pub mark-least : {u i r : ℕ} → Marked v N u i r → (t : ℕ) → i ≤ stateAt v N u t
+  mark-least {u} {i} m t = by t t (omega arith)
+    where
+      first : i ≤ stateAt v N u 0
+      first = let a = m .least N some (omega arith) in let wraps = state-wraps u N (omega arith) in let e = ap (stateAt v N u) (sub-self N) in omega arith
+
+      near : (t : ℕ) → t ≤ N → i ≤ stateAt v N u t
+      near zero h = first
+      near (suc t) h = m .least (suc t) (omega arith) h
+
+      by : (fuel t : ℕ) → t ≤ fuel → i ≤ stateAt v N u t
+      by zero t h = near t (omega arith)
+      by (suc fuel) t h = elim (decLe t N) [
+        | yes g ↦ near t g
+        | no g ↦ let wraps = state-wraps u t (omega arith) in let a = by fuel (t - N) (omega arith) in omega arith
+      ]
 
   -- a loop over c from i goes through c's states
   loop-states : (i c t : ℕ) → i ≡ stateAt v N c 0 → t ≤ N → walk v t i c ≡ stateAt v N c t

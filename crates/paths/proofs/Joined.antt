@@ -50,7 +50,7 @@ module _ (N : ℕ) where
   module _ (more : ℕ → ℕ → ℕ → ℕ → List ℕ) (lists : ℕ → ℕ → List (List ErrorEvent))
       (same : (left acc first budget : ℕ) → left ≤ N → more left acc first budget ≡ flatMap (emit N left acc first) (lists left budget))
       (left acc first budget : ℕ) (e : ErrorEvent) (some : 1 ≤ e .length) (inside : left ≤ N) where
-    joining-is-chaining : joining N more left acc first budget e ≡ flatMap (emit N left acc first) (chaining lists left budget e)
+    pub joining-is-chaining : joining N more left acc first budget e ≡ flatMap (emit N left acc first) (chaining lists left budget e)
     unfolding joining chaining
     joining-is-chaining =
         let l : ℕ = left - e .length in

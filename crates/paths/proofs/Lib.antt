@@ -4,3 +4,5 @@ pub mod Joined
 pub mod ChainLoops
 pub mod Arises
 pub mod Words
+pub mod Pruned
+pub mod Theorem

@@ -22,9 +22,9 @@ use Rattle.code.proofs.Steps.{Fit}
 use Rattle.order.specs.Order.{Order}
 use Rattle.events.specs.Events.{ErrorEvent, eventsOfState}
 use Rattle.events.proofs.OfState.{of-eventsOfState, in-eventsOfState, eventsOfState-distinct}
-use Rattle.paths.specs.Paths.{wordsOfWeight, plainCounts}
+use Rattle.paths.specs.Paths.{wordsOfWeight, weights, paths, plainCounts}
 use Rattle.paths.specs.Chains.{cost, number, firstLength, turns, firstOr, stateWords, chainWords}
-use Rattle.paths.proofs.Listed.{mem-words, of-wordsOfWeight, in-wordsOfWeight, wordsOfWeight-sorted, plain-count-at}
+use Rattle.paths.proofs.Listed.{mem-words, of-wordsOfWeight, in-wordsOfWeight, wordsOfWeight-sorted, mem-weights, plain-count-at}
 use Rattle.paths.proofs.Chains.{chains, of-chains, in-chains, chains-distinct}
 use Rattle.paths.proofs.Joined.{emit, joined-is-chains}
 use Rattle.paths.proofs.Arises.{Arises, arises-state-fits, arises-weight, arises-once-state, arises-once-turn, arises-once-chain, arises-somehow}
@@ -178,3 +178,12 @@ module _ (o : Order) (some : 0 < o .N) (longer : o .v ≤ o .N) where
         -- the plain count of weight w
         pub plain-count-chainWords : getD (plainCounts o) w 0 ≡ length (chainWords o w)
         plain-count-chainWords = plain-count-at o w light ∙ sym length-chainWords
+
+  -- weight by weight: parts sorted by number make the list of paths
+  pub sorted-parts-are-paths : Fit (o .v) (o .generators) → (part : ℕ → List ℕ)
+      → ((w : ℕ) → w < o .d → Sorted _<_ (part w) × Within (part w) (chainWords o w) × Within (chainWords o w) (part w))
+      → flatMap part (weights o) ≡ paths o
+  unfolding paths
+  sorted-parts-are-paths fit part h =
+      flatMap-cong-on part (wordsOfWeight o) (weights o)
+      (λ w m. let light = mem-weights o w .0 m in let k = h w light in sorted-chainWords w fit light (part w) (k .0) (k .1) (k .2))

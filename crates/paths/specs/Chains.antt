@@ -80,3 +80,22 @@ joinedIf worth zero es N left acc first budget = []
 joinedIf worth (suc fuel) es N left acc first budget =
     flatMap
     (λ e. let taken = joining N (joinedIf worth fuel es N) left acc first budget e in cond (worth left budget e) taken []) es
+
+-- ---- a bound by two tables: `least l` is no more than an event of length l weighs, `fill k` no more than k steps of events weigh
+
+-- the steps left can be filled at this weight, as far as the tables say
+unfoldable pub worthSteps : (ℕ → ℕ) → ℕ → ℕ → Bool
+worthSteps fill left budget = leb (fill left) budget
+
+-- they can, beginning with an event of length l
+unfoldable pub worthLength : (ℕ → ℕ) → (ℕ → ℕ) → ℕ → ℕ → ℕ → Bool
+worthLength least fill left budget l = leb (least l + fill (left - l)) budget
+
+-- they can, beginning with event e
+unfoldable pub worthEvent : (ℕ → ℕ) → ℕ → ℕ → ErrorEvent → Bool
+worthEvent fill left budget e = leb (e .weight + fill (left - e .length)) budget
+
+-- all three
+unfoldable pub worthJoining : (ℕ → ℕ) → (ℕ → ℕ) → ℕ → ℕ → ErrorEvent → Bool
+worthJoining least fill left budget e =
+    worthSteps fill left budget && worthLength least fill left budget (e .length) && worthEvent fill left budget e
