@@ -6,7 +6,7 @@ use native.Mathlib.Omega.{arith}
 use mathlib.Core.Path.{_≡_, refl, sym, ap, ap₂, _∙_}
 use mathlib.Core.Bool.{cond}
 use mathlib.Core.List.{List, [], _∷_, map, flatMap, List·Memᴰ}
-use lib.Dec.{T, eqb}
+use lib.Dec.{eqb}
 use lib.Pow.{pow-add}
 use Rattle.lists.proofs.Blocks.{flatMap-one, flatMap-none, flatMap-cong-on, flatMap-flatMap, flatMap-map}
 use Rattle.lists.proofs.Choices.{cond-cong-on, flatMap-cond}
@@ -50,32 +50,52 @@ module _ (N : ℕ) where
   module _ (more : ℕ → ℕ → ℕ → ℕ → List ℕ) (lists : ℕ → ℕ → List (List ErrorEvent))
       (same : (left acc first budget : ℕ) → left ≤ N → more left acc first budget ≡ flatMap (emit N left acc first) (lists left budget))
       (left acc first budget : ℕ) (e : ErrorEvent) (some : 1 ≤ e .length) (inside : left ≤ N) where
+    -- the number joined so far, with e
+    abbrev acc′ : ℕ
+    acc′ = acc + e .input * 2 ^ (N - left)
+
+    abbrev first′ : ℕ
+    first′ = firstOr first (e .length)
+
+    abbrev emitted : List ErrorEvent → List ℕ
+    emitted = emit N left acc first
+
+    -- e alone, and e before a chain of what is left
+    abbrev alone : List (List ErrorEvent)
+    alone = cond (eqb (e .weight) budget) ((e ∷ []) ∷ []) []
+
+    abbrev longer : List (List ErrorEvent)
+    longer = map (λ c. e ∷ c) (lists (left - e .length) (budget - e .weight))
+
+    emits-alone : cond (eqb (e .weight) budget) (turns N first′ acc′) [] ≡ flatMap emitted alone
+    emits-alone =
+        cond-cong-on (eqb (e .weight) budget) (turns N first′ acc′) (flatMap emitted ((e ∷ []) ∷ [])) [] (flatMap emitted [])
+        (λ _. emit-one left acc first e ∙ sym (flatMap-one emitted (e ∷ []))) (λ _. sym (flatMap-none emitted))
+        ∙ sym (flatMap-cond emitted (eqb (e .weight) budget) ((e ∷ []) ∷ []) [])
+
+    emits-longer : e .length ≤ left → more (left - e .length) acc′ first′ (budget - e .weight) ≡ flatMap emitted longer
+    emits-longer short =
+        let rest : List (List ErrorEvent) = lists (left - e .length) (budget - e .weight) in
+        same (left - e .length) acc′ first′ (budget - e .weight) (omega arith)
+        ∙ flatMap-cong-on (emit N (left - e .length) acc′ first′) (λ c. emitted (e ∷ c)) rest (λ c _. emit-more left acc first e c some short inside)
+        ∙ sym (flatMap-map emitted (λ c. e ∷ c) rest)
+
+    emits-either : e .length ≤ left
+        → cond (eqb (e .length) left) (cond (eqb (e .weight) budget) (turns N first′ acc′) []) (more (left - e .length) acc′ first′ (budget - e .weight))
+        ≡ flatMap emitted (cond (eqb (e .length) left) alone longer)
+    emits-either short =
+        cond-cong-on (eqb (e .length) left) (cond (eqb (e .weight) budget) (turns N first′ acc′) []) (flatMap emitted alone)
+        (more (left - e .length) acc′ first′ (budget - e .weight)) (flatMap emitted longer) (λ _. emits-alone) (λ _. emits-longer short)
+        ∙ sym (flatMap-cond emitted (eqb (e .length) left) alone longer)
+
     pub joining-is-chaining : joining N more left acc first budget e ≡ flatMap (emit N left acc first) (chaining lists left budget e)
     unfolding joining chaining
     joining-is-chaining =
-        let l : ℕ = left - e .length in
-        let b : ℕ = budget - e .weight in
-        let c : ℕ = acc + e .input * 2 ^ (N - left) in
-        let first′ : ℕ = firstOr first (e .length) in
-        let f : List ErrorEvent → List ℕ = emit N left acc first in
-        let alone : List (List ErrorEvent) = cond (eqb (e .weight) budget) ((e ∷ []) ∷ []) [] in
-        let longer : List (List ErrorEvent) = map (λ c. e ∷ c) (lists l b) in
-        let last : cond (eqb (e .weight) budget) (turns N first′ c) [] ≡ flatMap f alone =
-        cond-cong-on (eqb (e .weight) budget) (turns N first′ c) (flatMap f ((e ∷ []) ∷ [])) [] (flatMap f [])
-        (λ _. emit-one left acc first e ∙ sym (flatMap-one f (e ∷ []))) (λ _. sym (flatMap-none f))
-        ∙ sym (flatMap-cond f (eqb (e .weight) budget) ((e ∷ []) ∷ []) []) in
-        let rest : T (fitsIn left budget e) → more l c first′ b ≡ flatMap f longer =
-        λ t. same l c first′ b (omega arith)
-        ∙ flatMap-cong-on (emit N l c first′) (λ c. f (e ∷ c)) (lists l b) (λ c _. emit-more left acc first e c some (fits-parts left budget e t .0) inside)
-        ∙ sym (flatMap-map f (λ c. e ∷ c) (lists l b)) in
         cond-cong-on (fitsIn left budget e)
-        (cond (eqb (e .length) left) (cond (eqb (e .weight) budget) (turns N first′ c) []) (more l c first′ b))
-        (flatMap f (cond (eqb (e .length) left) alone longer)) [] (flatMap f [])
-        (λ t. cond-cong-on (eqb (e .length) left) (cond (eqb (e .weight) budget) (turns N first′ c) []) (flatMap f alone) (more l c first′ b) (flatMap f longer)
-        (λ _. last) (λ _. rest t)
-        ∙ sym (flatMap-cond f (eqb (e .length) left) alone longer))
-        (λ _. sym (flatMap-none f))
-        ∙ sym (flatMap-cond f (fitsIn left budget e) (cond (eqb (e .length) left) alone longer) [])
+        (cond (eqb (e .length) left) (cond (eqb (e .weight) budget) (turns N first′ acc′) []) (more (left - e .length) acc′ first′ (budget - e .weight)))
+        (flatMap emitted (cond (eqb (e .length) left) alone longer)) [] (flatMap emitted [])
+        (λ t. emits-either (fits-parts left budget e t .0)) (λ _. sym (flatMap-none emitted))
+        ∙ sym (flatMap-cond emitted (fitsIn left budget e) (cond (eqb (e .length) left) alone longer) [])
 
   pub joined-is-chains : (es : List ErrorEvent) → ((e : ErrorEvent) → List·Memᴰ e es → 1 ≤ e .length)
       → (fuel left acc first budget : ℕ) → left ≤ N → joined fuel es N left acc first budget ≡ flatMap (emit N left acc first) (chains fuel es left budget)

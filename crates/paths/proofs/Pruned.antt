@@ -33,7 +33,8 @@ module _ (N : ℕ) (es : List ErrorEvent) (some-step : (e : ErrorEvent) → List
       ∙ ap (flatMap (emit N left acc first)) (nil-of-no-member (chains fuel es left budget) (λ c m. none c (of-chains es fuel left budget c m)))
       ∙ flatMap-none (emit N left acc first)
 
-  joining-none : (fuel left acc first budget : ℕ) (e : ErrorEvent) → List·Memᴰ e es → left ≤ N → ((c : List ErrorEvent) → Fills es left budget (e ∷ c) → ⊥)
+  joining-none : (fuel left acc first budget : ℕ) (e : ErrorEvent) → List·Memᴰ e es → left ≤ N
+      → ((c : List ErrorEvent) → Fills es left budget (e ∷ c) → ⊥)
       → joining N (joined fuel es N) left acc first budget e ≡ []
   joining-none fuel left acc first budget e m h none =
       joining-is-chaining N (joined fuel es N) (chains fuel es) (joined-is-chains N es some-step fuel) left acc first budget e (some-step e m) h
@@ -71,7 +72,8 @@ module _ (N : ℕ) (es : List ErrorEvent) (some-step : (e : ErrorEvent) → List
           ∙ sym (joining-none fuel left acc first budget e m h (λ c f. T-not (worth left budget e) t (keeps left budget e c h f))))
           (passes-or-fails (worth left budget e))
 
-  pub keeps-both : (worth worth′ : ℕ → ℕ → ErrorEvent → Bool) → Keeps N es worth → Keeps N es worth′ → Keeps N es (λ left budget e. worth left budget e && worth′ left budget e)
+  pub keeps-both : (worth worth′ : ℕ → ℕ → ErrorEvent → Bool) → Keeps N es worth → Keeps N es worth′
+      → Keeps N es (λ left budget e. worth left budget e && worth′ left budget e)
   keeps-both worth worth′ k k′ left budget e c h f =
       T-and (worth left budget e) (worth′ left budget e) .1 (k left budget e c h f, k′ left budget e c h f)
 
