@@ -6,3 +6,7 @@ pub mod Scan
 pub mod Sorted
 pub mod Keys
 pub mod Least
+pub mod Blocks
+pub mod Distinct
+pub mod Hits
+pub mod Choices

@@ -1,0 +1,150 @@
+-- A word arises from a chain of events of i of N steps, turned by less than the length of its first event. Then i is the word's smallest state
+-- and the word weighs what the events weigh (`arises-marked`, `arises-weight`). Every word of weight below the threshold arises
+-- (`arises-somehow`), and in one way only (`arises-once-state`, `arises-once-turn`, `arises-once-chain`).
+-- Assumes nothing.
+use Prim.Native.Nat.{ℕ, _-_, _^_, _≤_, _<_}
+use native.Mathlib.Omega.{arith}
+use mathlib.Core.Path.{_≡_, refl, sym, ap, _∙_, subst}
+use mathlib.Core.List.{List, [], _∷_, List·Memᴰ·head}
+use Rattle.code.specs.Weight.{weight}
+use Rattle.code.specs.Trellis.{rotate, walkWeight}
+use Rattle.code.proofs.Walks.{closed⇔first-state}
+use Rattle.code.proofs.Steps.{Fit, walkWeight-word}
+use Rattle.code.proofs.Rotation.{weight-rotate}
+use Rattle.code.proofs.Meets.{Meets}
+use Rattle.code.proofs.Loops.{Loop}
+use Rattle.code.proofs.Marks.{Marked, mark-exists, mark-unique-state, mark-unique-turn, marked-turn, mark-state-fits, mark-loop, mark-before-return, mark-turned-back, turn-injective}
+use Rattle.order.specs.Order.{Order}
+use Rattle.events.specs.Events.{ErrorEvent}
+use Rattle.paths.specs.Chains.{steps, cost, number, firstLength}
+use Rattle.paths.proofs.ChainLoops.{ChainOf, ChainFor, chain-loop, chain-meets, chain-weight, chain-unique, loop-chain}
+
+-- u is the chain c of events of i, turned by r, which is less than the first event's length
+pub record Arises (o : Order) (i r : ℕ) (c : List ErrorEvent) (u : ℕ) : Type 0 where
+  pub of-state : ChainOf o i c
+  pub steps-are : steps c ≡ o .N
+  pub inside : r < firstLength c
+  pub word-is : rotate (o .N) r (number c) ≡ u
+
+-- the three parts of how a word arises
+pub record Origin (o : Order) (u : ℕ) : Type 0 where
+  pub state : ℕ
+  pub turn : ℕ
+  pub chain : List ErrorEvent
+  pub arises : Arises o state turn chain u
+
+-- what the first event of a chain says
+record First (o : Order) (i : ℕ) (c : List ErrorEvent) : Type 0 where
+  state-fits : i < 2 ^ o .v
+  meets : Meets (o .v) i (firstLength c) i (number c)
+  within : firstLength c ≤ steps c
+
+chain-first : (o : Order) (i r : ℕ) (c : List ErrorEvent) → ChainOf o i c → r < firstLength c → First o i c
+unfolding firstLength steps
+chain-first o i r [] h l = absurd (omega arith)
+chain-first o i r (e ∷ c) h l =
+    let first = h e (List·Memᴰ·head refl) in
+    record {
+      state-fits = subst (λ (x : ℕ). x < 2 ^ o .v) (first .state-is) (first .event .state-fits);
+      meets = chain-meets o i e c h;
+      within = omega arith;
+    }
+
+module _ (o : Order) (some : 0 < o .N) (longer : o .v ≤ o .N) where
+  module _ {i r u : ℕ} {c : List ErrorEvent} (a : Arises o i r c u) where
+    arises-first : First o i c
+    arises-first = chain-first o i r c (a .of-state) (a .inside)
+
+    pub arises-state-fits : i < 2 ^ o .v
+    arises-state-fits = arises-first .state-fits
+
+    arises-loop : Loop (o .v) i (o .N) (number c)
+    arises-loop = subst (λ (k : ℕ). Loop (o .v) i k (number c)) (a .steps-are) (chain-loop o i c (a .of-state))
+
+    pub arises-marked : Marked (o .v) (o .N) u i r
+    arises-marked =
+        let first = arises-first in
+        let short = first .within in
+        let all = a .steps-are in
+        subst (λ (x : ℕ). Marked (o .v) (o .N) x i r) (a .word-is)
+        (marked-turn (o .v) (o .N) some longer arises-state-fits arises-loop (first .meets) r (a .inside) (omega arith))
+
+    -- a loop from i that weighs what the word weighs
+    pub arises-weight : Fit (o .v) (o .generators) → weight (o .N) (o .generators) u ≡ cost c
+    arises-weight fit =
+        let first-state = closed⇔first-state (o .v) (o .N) (number c) i longer arises-state-fits .0 (arises-loop .closes) in
+        ap (weight (o .N) (o .generators)) (sym (a .word-is))
+        ∙ weight-rotate (o .generators) (o .v) (o .N) r (number c) some longer (arises-loop .fits) fit
+        ∙ sym (walkWeight-word (o .generators) (o .v) (o .N) (number c) some longer (arises-loop .fits) fit)
+        ∙ ap (λ (s : ℕ). walkWeight (o .generators) (o .v) (o .N) s (number c)) (sym first-state)
+        ∙ ap (λ (k : ℕ). walkWeight (o .generators) (o .v) k i (number c)) (sym (a .steps-are))
+        ∙ chain-weight o i c (a .of-state)
+
+  -- ---- in one way only
+
+  module _ {i r i′ r′ u : ℕ} {c c′ : List ErrorEvent} (a : Arises o i r c u) (a′ : Arises o i′ r′ c′ u) where
+    pub arises-once-state : i ≡ i′
+    arises-once-state = mark-unique-state (o .v) (o .N) u (arises-marked a) (arises-marked a′)
+
+    pub arises-once-turn : r ≡ r′
+    arises-once-turn = mark-unique-turn (o .v) (o .N) u (arises-marked a) (arises-marked a′)
+
+    arises-once-number : number c ≡ number c′
+    arises-once-number =
+        let inside = arises-marked a .inside in
+        turn-injective (o .v) (o .N) some longer r (number c) (number c′) (omega arith) (arises-loop a .fits) (arises-loop a′ .fits)
+        (a .word-is ∙ sym (a′ .word-is) ∙ ap (λ (x : ℕ). rotate (o .N) x (number c′)) (sym arises-once-turn))
+
+    pub arises-once-chain : c ≡ c′
+    arises-once-chain =
+        chain-unique o i c c′ (a .of-state) (subst (λ (x : ℕ). ChainOf o x c′) (sym arises-once-state) (a′ .of-state))
+        (a .steps-are ∙ sym (a′ .steps-are)) arises-once-number
+
+  -- ---- somehow
+
+  -- a chain of a loop that comes back after place r
+  begins-late : (i r : ℕ) (c : List ErrorEvent) → ChainOf o i c → steps c ≡ o .N
+      → ((l : ℕ) → l ≤ o .N → Meets (o .v) i l i (number c) → r < l) → r < firstLength c
+  unfolding firstLength steps
+  begins-late i r [] h s late = absurd (omega arith)
+  begins-late i r (e ∷ c) h s late = late (e .length) (omega arith) (chain-meets o i e c h)
+
+  module _ (fit : Fit (o .v) (o .generators)) (u : ℕ) (fits : u < 2 ^ o .N) (light : weight (o .N) (o .generators) u < o .d) where
+    module _ {i r : ℕ} (m : Marked (o .v) (o .N) u i r) where
+      abbrev begun : ℕ
+      begun = rotate (o .N) (o .N - r) u
+
+      loop : Loop (o .v) i (o .N) begun
+      loop = mark-loop (o .v) (o .N) some longer fits m
+
+      state-fits : i < 2 ^ o .v
+      state-fits = mark-state-fits (o .v) (o .N) some longer fits m
+
+      begun-light : walkWeight (o .generators) (o .v) (o .N) i begun < o .d
+      begun-light =
+          let first-state = closed⇔first-state (o .v) (o .N) begun i longer state-fits .0 (loop .closes) in
+          let same =
+          ap (λ (s : ℕ). walkWeight (o .generators) (o .v) (o .N) s begun) first-state
+          ∙ walkWeight-word (o .generators) (o .v) (o .N) begun some longer (loop .fits) fit
+          ∙ weight-rotate (o .generators) (o .v) (o .N) (o .N - r) u some longer fits fit in
+          subst (λ (w : ℕ). w < o .d) (sym same) light
+
+      origin : ChainFor o i (o .N) begun → Origin o u
+      origin c = record {
+        state = i;
+        turn = r;
+        chain = c .events;
+        arises = record {
+          of-state = c .of-state;
+          steps-are = c .steps-are;
+          inside = begins-late i r (c .events) (c .of-state) (c .steps-are)
+              (λ l h k. mark-before-return (o .v) (o .N) some longer fits m l h (subst (Meets (o .v) i l i) (c .number-is) k));
+          word-is = ap (rotate (o .N) r) (c .number-is) ∙ mark-turned-back (o .v) (o .N) some longer fits m;
+        };
+      }
+
+    pub arises-somehow : Origin o u
+    arises-somehow =
+        let found = mark-exists (o .v) (o .N) u some in
+        let m = found .2 in
+        origin m (loop-chain o (found .0) (state-fits m) (o .N) (begun m) (omega arith) (loop m) (begun-light m))
