@@ -6,3 +6,7 @@ pub mod Cuts
 pub mod Meets
 pub mod Loops
 pub mod Marks
+pub mod Turn
+pub mod Weights
+pub mod Sent
+pub mod Calls

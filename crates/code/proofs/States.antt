@@ -65,6 +65,15 @@ pub stateAt-next : (v N u t : ℕ) → stateAt v N u (suc t) ≡ next v (stateAt
 unfolding next stateAt window
 stateAt-next v N u t = sym (ap (λ (x : ℕ). x % 2 ^ v) (stateAt-push v N u t) ∙ fromBits-mod v (window N u t) (window-lt N u t))
 
+-- one more bit of memory: the state and the word's next bit
+pub stateAt-more : (k N u t : ℕ) → t < N → 2 * stateAt k N u t + bit t u ≡ stateAt (suc k) N u (suc t)
+unfolding stateAt window
+stateAt-more k N u t h = ap (λ (x : ℕ). 2 * stateAt k N u t + x) (sym (place-bit N u t h)) ∙ stateAt-push k N u t
+
+pub stateAt-none : (N u t : ℕ) → stateAt 0 N u t ≡ 0
+unfolding stateAt fromBits
+stateAt-none N u t = refl
+
 -- the walk closes: after N steps the state is back
 pub stateAt-period : (v N u t : ℕ) → v ≤ N → stateAt v N u (t + N) ≡ stateAt v N u t
 unfolding stateAt

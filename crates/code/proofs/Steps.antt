@@ -19,7 +19,7 @@ use Rattle.poly.proofs.Bits.{bit-first, bit-later, bit-zero, bit-low, half-lt, 
 use Rattle.poly.proofs.Product.{⊗-zero, ⊗-step}
 use Rattle.poly.proofs.Remainder.{remainder-zero, remainder-⊕, remainder-double, remainder-small, remainder-lt}
 use Rattle.code.specs.Weight.{output, weight}
-use Rattle.code.specs.Trellis.{place, stateAt, next, stepOutput, stepWeight, walk, walkWeight}
+use Rattle.code.specs.Trellis.{place, stateAt, next, tapped, stepOutput, stepWeight, walk, walkWeight}
 use Rattle.code.proofs.States.{place-lt, place-period, place-bit, stateAt-bit, window, window-lt, window-first, window-later, stateAt-push}
 use Rattle.code.proofs.Walks.{word-follows, walkWeight-follows}
 
@@ -49,10 +49,10 @@ digit-later : (t x : ℕ) → x < 2 → bit (suc t) x ≡ 0
 digit-later t x h = for-bits (λ (c : ℕ). bit (suc t) c ≡ 0) (bit-zero (suc t)) (bit-later t 1 ∙ bit-zero t) x h
 
 -- x·r modulo x^N + 1
-abbrev turned : ℕ → ℕ → ℕ
+abbrev pub turned : ℕ → ℕ → ℕ
 turned N r = register N (2 ^ N + 1) r 0
 
-turned-first : (n r : ℕ) → bit 0 (turned (suc n) r) ≡ bit n r
+pub turned-first : (n r : ℕ) → bit 0 (turned (suc n) r) ≡ bit n r
 unfolding register
 turned-first n r =
     let b : ℕ = bit (suc n) (2 * r + 0) in
@@ -60,7 +60,7 @@ turned-first n r =
     ∙ ap₂ differ (bit-double-first r)
     (bit-cycle 0 (suc n) b (zero-lt-suc n) (bit-lt (suc n) (2 * r + 0)) ∙ digit-first b (bit-lt (suc n) (2 * r + 0)) ∙ bit-double-later n r)
 
-turned-later : (t N r : ℕ) → suc t < N → bit (suc t) (turned N r) ≡ bit t r
+pub turned-later : (t N r : ℕ) → suc t < N → bit (suc t) (turned N r) ≡ bit t r
 unfolding register
 turned-later t N r h =
     let b : ℕ = bit N (2 * r + 0) in
@@ -100,11 +100,11 @@ place-of-zero : (N i : ℕ) → place N 0 i ≡ 0
 unfolding place
 place-of-zero N i = bit-zero (i % N)
 
-output-zero : (N u : ℕ) → output N 0 u ≡ 0
+pub output-zero : (N u : ℕ) → output N 0 u ≡ 0
 unfolding output
 output-zero N u = ap (remainder N (2 ^ N + 1)) (⊗-zero u) ∙ remainder-zero N (2 ^ N + 1)
 
-output-step : (N g u : ℕ) → u < 2 ^ N → output N g u ≡ turned N (output N (g / 2) u) ⊕ (g % 2 * u)
+pub output-step : (N g u : ℕ) → u < 2 ^ N → output N g u ≡ turned N (output N (g / 2) u) ⊕ (g % 2 * u)
 unfolding output
 output-step N g u h =
     ap (remainder N (2 ^ N + 1)) (⊗-step u g)
@@ -119,10 +119,7 @@ place-output n g u t h =
     ∙ place-⊕ (suc n) (turned (suc n) (output (suc n) (g / 2) u)) (g % 2 * u) (suc t)
     ∙ ap₂ differ (place-turned n (output (suc n) (g / 2) u) t) (place-digit-times (suc n) (g % 2) u (suc t) (mod2-lt g))
 
--- ---- the parity of the inputs that a generator taps
-
-parity : ℕ → ℕ → ℕ
-parity g w = ones (bitAnd g w) % 2
+-- ---- the tapped the of inputs that a generator taps
 
 digit-plus : (x y : ℕ) → x < 2 → (x + y) % 2 ≡ differ (y % 2) x
 digit-plus x y h =
@@ -142,15 +139,15 @@ mod2-and g w =
     ap (λ (x : ℕ). x % 2) (and-step g w ∙ ap (λ (x : ℕ). bitAnd (g / 2) (w / 2) * 2 + x) (digits-and (g % 2) (w % 2) (mod2-lt g) (mod2-lt w)))
     ∙ digits-mod (bitAnd (g / 2) (w / 2)) (digits-times-lt (g % 2) (w % 2) (mod2-lt g) (mod2-lt w))
 
-parity-step : (g w : ℕ) → parity g w ≡ differ (parity (g / 2) (w / 2)) (g % 2 * (w % 2))
-unfolding parity
-parity-step g w =
+tapped-step : (g w : ℕ) → tapped w g ≡ differ (tapped (w / 2) (g / 2)) (g % 2 * (w % 2))
+unfolding tapped
+tapped-step g w =
     ap (λ (x : ℕ). x % 2) (ones-step (bitAnd g w) ∙ ap₂ (λ (x y : ℕ). x + ones y) (mod2-and g w) (and-shr g w 1))
     ∙ digit-plus (g % 2 * (w % 2)) (ones (bitAnd (g / 2) (w / 2))) (digits-times-lt (g % 2) (w % 2) (mod2-lt g) (mod2-lt w))
 
-parity-zero : (w : ℕ) → parity 0 w ≡ 0
-unfolding parity ones onesIn
-parity-zero w = refl
+tapped-zero : (w : ℕ) → tapped w 0 ≡ 0
+unfolding tapped onesIn ones
+tapped-zero w = refl
 
 -- ---- a generator of k coefficients taps the window of the last k inputs
 
@@ -161,12 +158,12 @@ window-back n u t j h =
     ∙ sym (ap (place (suc n) u) (omega arith) ∙ place-period (suc n) u (t + suc n - suc j))
 
 output-window : (n u k g t : ℕ) → u < 2 ^ suc n → k ≤ suc (suc n) → g < 2 ^ k
-    → place (suc n) (output (suc n) g u) t ≡ parity g (fromBits k (window (suc n) u t))
+    → place (suc n) (output (suc n) g u) t ≡ tapped (fromBits k (window (suc n) u t)) g
 unfolding fromBits
 output-window n u zero g t hu hk hg =
     ap (λ (x : ℕ). place (suc n) (output (suc n) x u) t) (lt-one hg)
     ∙ ap (λ (x : ℕ). place (suc n) x t) (output-zero (suc n) u) ∙ place-of-zero (suc n) t
-    ∙ sym (parity-zero 0) ∙ ap (λ (x : ℕ). parity x 0) (sym (lt-one hg))
+    ∙ sym (tapped-zero 0) ∙ ap (λ (x : ℕ). tapped 0 x) (sym (lt-one hg))
 output-window n u (suc k) g t hu hk hg =
     let inputs : ℕ = fromBits k (λ j. window (suc n) u t (suc j)) in
     let latest : ℕ = window (suc n) u t 0 in
@@ -175,22 +172,22 @@ output-window n u (suc k) g t hu hk hg =
     ∙ place-output n g u (t + n) hu
     ∙ ap₂ differ
     (output-window n u k (g / 2) (t + n) hu (le-trans (le-suc k) hk) (half-lt k g hg)
-    ∙ ap (parity (g / 2)) (fromBits-cong k (window (suc n) u (t + n)) (λ j. window (suc n) u t (suc j)) (λ j l. sym (window-back n u t j (omega arith)))))
+    ∙ ap (λ (x : ℕ). tapped x (g / 2)) (fromBits-cong k (window (suc n) u (t + n)) (λ j. window (suc n) u t (suc j)) (λ j l. sym (window-back n u t j (omega arith)))))
     (ap (λ (x : ℕ). g % 2 * x) (ap (place (suc n) u) (sym (add-suc t n)) ∙ place-period (suc n) u t ∙ sym (window-first (suc n) u t)))
-    ∙ sym (parity-step g (latest + 2 * inputs)
-    ∙ ap₂ (λ (x y : ℕ). differ (parity (g / 2) x) (g % 2 * y))
+    ∙ sym (tapped-step g (latest + 2 * inputs)
+    ∙ ap₂ (λ (x y : ℕ). differ (tapped x (g / 2)) (g % 2 * y))
     (ap (λ (x : ℕ). x / 2) (add-comm latest (2 * inputs)) ∙ half-push inputs latest (window-lt (suc n) u t 0))
     (ap (λ (x : ℕ). x % 2) (add-comm latest (2 * inputs)) ∙ mod2-push inputs latest (window-lt (suc n) u t 0)))
 
 -- what generator g sends at step t
 pub output-bit : (v N g u t : ℕ) → v ≤ N → u < 2 ^ N → g < 2 ^ suc v → t < N
     → bit t (output N g u) ≡ stepOutput g (stateAt v N u t) (place N u t)
-unfolding stepOutput parity
+unfolding stepOutput
 output-bit v zero g u t hv hu hg ht = absurd (not-suc-le-zero ht)
 output-bit v (suc n) g u t hv hu hg ht =
     sym (place-bit (suc n) (output (suc n) g u) t ht)
     ∙ output-window n u (suc v) g t hu (suc-le-suc hv) hg
-    ∙ ap (parity g) (sym (stateAt-push v (suc n) u t))
+    ∙ ap (λ (x : ℕ). tapped x g) (sym (stateAt-push v (suc n) u t))
 
 -- ---- the weight
 

@@ -1,2 +1,4 @@
 pub mod Weight
 pub mod Trellis
+pub mod Calls
+pub mod Answers

@@ -26,9 +26,13 @@ rotate N r u = fromBits N (λ t. place N u (t + r))
 unfoldable pub next : ℕ → ℕ → ℕ → ℕ
 next v s b = (2 * s + b) % 2 ^ v
 
--- what generator g sends in a step from state s with input b: bit j of 2s + b is the input j steps ago
+-- what generator g sends: the parity of the inputs that it taps, where bit j of the window is the input j steps ago
+unfoldable pub tapped : ℕ → ℕ → ℕ
+tapped window g = ones (bitAnd g window) % 2
+
+-- what it sends in a step from state s with input b
 unfoldable pub stepOutput : ℕ → ℕ → ℕ → ℕ
-stepOutput g s b = ones (bitAnd g (2 * s + b)) % 2
+stepOutput g s b = tapped (2 * s + b) g
 
 -- the ones that all generators send in that step
 unfoldable pub stepWeight : List ℕ → ℕ → ℕ → ℕ

@@ -2,18 +2,19 @@
 -- Assumes nothing.
 use mathlib.Core.Path.{_≡_, refl, sym, ap, ap₂, _∙_, subst}
 use mathlib.Core.Bool.{Bool, true, false, _&&_}
-use mathlib.Core.List.{List, [], _∷_, _++_}
+use mathlib.Core.List.{List, [], _∷_}
 use Prim.Native.Nat.{ℕ, zero, suc, _+_, _-_, _*_, _/_, _%_, _^_, _≤_, _<_}
-use native.Mathlib.Nat.{sub-add-cancel, le-of-lt, lt-of-lt-of-le, zero-add}
+use native.Mathlib.Nat.{suc-ne-zero, sub-add-cancel, le-of-lt, lt-of-lt-of-le, zero-add}
 use native.Mathlib.Omega.{arith}
 use borrow.Author.Tests.{leb-true, ltb-true, eqb-true}
-use lib.Dec.{T, leb, ltb, eqb}
+use lib.Dec.{leb, ltb, eqb}
 use lib.Pow.{shl-lt, pow-mono}
-use Rattle.lists.proofs.Tests.{T-and, true-of-T}
+use Rattle.lists.proofs.Tests.{both}
+use Rattle.order.proofs.Answers.{range}
 use Rattle.poly.specs.Poly.{bit, _⊕_, HasDegree, remainder}
 use Rattle.order.specs.Questions.{Question, firstNo, from-to, below}
-use Rattle.order.proofs.FirstNo.{firstNo-++, firstNo-yes, firstNo-no, yes-of-firstNo, orElse}
-use Rattle.crc.specs.Check.{Answer, word, refused, append, strip, test, polynomialQuestions, unless, appendCall, stripCall, testCall}
+use Rattle.order.proofs.FirstNo.{firstNo-none, firstNo-yes, firstNo-no, refused-first, refused-later, is-refused, is-answered, yes-of-firstNo}
+use Rattle.crc.specs.Check.{word, refused, append, strip, test, polynomialQuestions, wordQuestions, appendCall, stripCall, testCall}
 
 -- what questions 5, 6 and 11 let a call assume
 pub record Accepted (N m p : ℕ) : Type 0 where
@@ -23,14 +24,6 @@ pub record Accepted (N m p : ℕ) : Type 0 where
   pub at-most-12 : m ≤ 12
   pub degree-below : m < N
   pub degree : HasDegree m p
-
-both : (a b : Bool) → (a && b) ≡ true → (a ≡ true) × (b ≡ true)
-both true b e = (refl, e)
-both false b e = absurd (subst T (sym e) tt)
-
-range : (low high x : ℕ) → from-to low high x ≡ true → (low ≤ x) × (x ≤ high)
-unfolding from-to
-range low high x e = (leb-true low x (both (leb low x) (leb x high) e .0), leb-true x high (both (leb low x) (leb x high) e .1))
 
 pub accepted : (N m p : ℕ) → firstNo (polynomialQuestions N m p) ≡ 0 → Accepted N m p
 unfolding polynomialQuestions
@@ -49,73 +42,59 @@ accepted N m p e =
       degree = eqb-true (p / 2 ^ m) 1 (eleven .0);
     }
 
-module _ (N m p k u : ℕ) (a : Answer) where
-  -- all questions of a call that takes a word or message of k bits
-  abbrev Answered : Answer
-  Answered = unless (firstNo (polynomialQuestions N m p ++ (below k u ∷ []))) a
+-- a refusal by questions 5, 6 and 11, one by 12, and none
+module _ (N m p k u : ℕ) (r : ℕ) (e : r ≡ firstNo (polynomialQuestions N m p)) where
+  refused-by-polynomial : (r ≡ 0 → ⊥) → r ≡ firstNo (wordQuestions N m p k u)
+  unfolding wordQuestions polynomialQuestions
+  refused-by-polynomial n = refused-first (polynomialQuestions N m p) (below k u ∷ []) r (tt, (tt, (tt, tt))) e n
 
-  in-two-parts : firstNo (polynomialQuestions N m p ++ (below k u ∷ [])) ≡ orElse (firstNo (polynomialQuestions N m p)) (firstNo (below k u ∷ []))
-  unfolding polynomialQuestions
-  in-two-parts = firstNo-++ (polynomialQuestions N m p) (below k u ∷ []) (tt, (tt, (tt, tt)))
+  refused-by-word : r ≡ 0 → ltb u (2 ^ k) ≡ false → 12 ≡ firstNo (wordQuestions N m p k u)
+  unfolding wordQuestions polynomialQuestions
+  refused-by-word z b =
+      refused-later (polynomialQuestions N m p) (below k u ∷ []) r 12 (tt, (tt, (tt, tt))) e z (sym (firstNo-no (below k u) [] b))
 
-  refused-early : (r : ℕ) → r ≡ firstNo (polynomialQuestions N m p) → (r ≡ 0 → ⊥) → refused r ≡ Answered
-  unfolding unless
-  refused-early r e n = by r n ∙ ap (λ (x : ℕ). unless (orElse x (firstNo (below k u ∷ []))) a) e ∙ ap (λ (x : ℕ). unless x a) (sym in-two-parts)
-    where
-      by : (x : ℕ) → (x ≡ 0 → ⊥) → refused x ≡ unless (orElse x (firstNo (below k u ∷ []))) a
-      by zero h = absurd (h refl)
-      by (suc x) h = refl
-
-  -- questions 5, 6 and 11 say yes: 12 decides
-  decides : (r : ℕ) → r ≡ firstNo (polynomialQuestions N m p) → r ≡ 0 → unless (firstNo (below k u ∷ [])) a ≡ Answered
-  decides r e z =
-      ap (λ (x : ℕ). unless (orElse x (firstNo (below k u ∷ []))) a) (sym z ∙ e) ∙ ap (λ (x : ℕ). unless x a) (sym in-two-parts)
-
-  refused-late : (r : ℕ) → r ≡ firstNo (polynomialQuestions N m p) → r ≡ 0 → ltb u (2 ^ k) ≡ false → refused 12 ≡ Answered
-  unfolding unless
-  refused-late r e z b = ap (λ (x : ℕ). unless x a) (sym (firstNo-no (below k u) [] b)) ∙ decides r e z
-
-  answered : (r : ℕ) → r ≡ firstNo (polynomialQuestions N m p) → r ≡ 0 → ltb u (2 ^ k) ≡ true → a ≡ Answered
-  unfolding unless firstNo
-  answered r e z b = ap (λ (x : ℕ). unless x a) (sym (firstNo-yes (below k u) [] b)) ∙ decides r e z
+  refused-by-none : r ≡ 0 → ltb u (2 ^ k) ≡ true → 0 ≡ firstNo (wordQuestions N m p k u)
+  unfolding wordQuestions polynomialQuestions
+  refused-by-none z b =
+      refused-later (polynomialQuestions N m p) (below k u ∷ []) r 0 (tt, (tt, (tt, tt))) e z (sym (firstNo-yes (below k u) [] b ∙ firstNo-none))
 
 -- ---- the calls by name
 
 pub append-refused-early : (N m p u r : ℕ) → r ≡ firstNo (polynomialQuestions N m p) → (r ≡ 0 → ⊥) → refused r ≡ appendCall N m p u
 unfolding appendCall
-append-refused-early N m p u r e n = refused-early N m p (N - m) u (word (append m p u)) r e n
+append-refused-early N m p u r e n = is-refused refused (word (append m p u)) r _ (refused-by-polynomial N m p (N - m) u r e n) n
 
 pub append-refused-late : (N m p u r : ℕ) → r ≡ firstNo (polynomialQuestions N m p) → r ≡ 0 → ltb u (2 ^ (N - m)) ≡ false → refused 12 ≡ appendCall N m p u
 unfolding appendCall
-append-refused-late N m p u r e z b = refused-late N m p (N - m) u (word (append m p u)) r e z b
+append-refused-late N m p u r e z b = is-refused refused (word (append m p u)) 12 _ (refused-by-word N m p (N - m) u r e z b) (suc-ne-zero 11)
 
 pub append-answered : (N m p u r : ℕ) → r ≡ firstNo (polynomialQuestions N m p) → r ≡ 0 → ltb u (2 ^ (N - m)) ≡ true → word (append m p u) ≡ appendCall N m p u
 unfolding appendCall
-append-answered N m p u r e z b = answered N m p (N - m) u (word (append m p u)) r e z b
+append-answered N m p u r e z b = is-answered refused (word (append m p u)) _ (refused-by-none N m p (N - m) u r e z b)
 
 pub strip-refused-early : (N m p u r : ℕ) → r ≡ firstNo (polynomialQuestions N m p) → (r ≡ 0 → ⊥) → refused r ≡ stripCall N m p u
 unfolding stripCall
-strip-refused-early N m p u r e n = refused-early N m p N u (strip m p u) r e n
+strip-refused-early N m p u r e n = is-refused refused (strip m p u) r _ (refused-by-polynomial N m p N u r e n) n
 
 pub strip-refused-late : (N m p u r : ℕ) → r ≡ firstNo (polynomialQuestions N m p) → r ≡ 0 → ltb u (2 ^ N) ≡ false → refused 12 ≡ stripCall N m p u
 unfolding stripCall
-strip-refused-late N m p u r e z b = refused-late N m p N u (strip m p u) r e z b
+strip-refused-late N m p u r e z b = is-refused refused (strip m p u) 12 _ (refused-by-word N m p N u r e z b) (suc-ne-zero 11)
 
 pub strip-answered : (N m p u r : ℕ) → r ≡ firstNo (polynomialQuestions N m p) → r ≡ 0 → ltb u (2 ^ N) ≡ true → strip m p u ≡ stripCall N m p u
 unfolding stripCall
-strip-answered N m p u r e z b = answered N m p N u (strip m p u) r e z b
+strip-answered N m p u r e z b = is-answered refused (strip m p u) _ (refused-by-none N m p N u r e z b)
 
 pub test-refused-early : (N m p u r : ℕ) → r ≡ firstNo (polynomialQuestions N m p) → (r ≡ 0 → ⊥) → refused r ≡ testCall N m p u
 unfolding testCall
-test-refused-early N m p u r e n = refused-early N m p N u (test m p u) r e n
+test-refused-early N m p u r e n = is-refused refused (test m p u) r _ (refused-by-polynomial N m p N u r e n) n
 
 pub test-refused-late : (N m p u r : ℕ) → r ≡ firstNo (polynomialQuestions N m p) → r ≡ 0 → ltb u (2 ^ N) ≡ false → refused 12 ≡ testCall N m p u
 unfolding testCall
-test-refused-late N m p u r e z b = refused-late N m p N u (test m p u) r e z b
+test-refused-late N m p u r e z b = is-refused refused (test m p u) 12 _ (refused-by-word N m p N u r e z b) (suc-ne-zero 11)
 
 pub test-answered : (N m p u r : ℕ) → r ≡ firstNo (polynomialQuestions N m p) → r ≡ 0 → ltb u (2 ^ N) ≡ true → test m p u ≡ testCall N m p u
 unfolding testCall
-test-answered N m p u r e z b = answered N m p N u (test m p u) r e z b
+test-answered N m p u r e z b = is-answered refused (test m p u) _ (refused-by-none N m p N u r e z b)
 
 -- ---- what append computes
 

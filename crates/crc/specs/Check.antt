@@ -4,7 +4,7 @@
 use mathlib.Core.List.{List, [], _∷_, _++_}
 use Prim.Native.Nat.{ℕ, zero, suc, _-_, _*_, _/_, _^_}
 use Rattle.poly.specs.Poly.{_⊕_, remainder}
-use Rattle.order.specs.Questions.{Question, firstNo, wordLength, checkDegree, checkPolynomial, below}
+use Rattle.order.specs.Questions.{Question, firstNo, unless, wordLength, checkDegree, checkPolynomial, below}
 
 -- what a call answers, with document 01's values and the numbers of its refusals
 pub data Answer : Type 0 where
@@ -41,17 +41,16 @@ test m p u = tested (remainder m p u)
 unfoldable pub polynomialQuestions : ℕ → ℕ → ℕ → List Question
 polynomialQuestions N m p = wordLength 1 N ∷ checkDegree N m ∷ checkPolynomial m p ∷ []
 
--- the answer, where no question says no
-unfoldable pub unless : ℕ → Answer → Answer
-unless zero a = a
-unless (suc k) a = refused (suc k)
+-- and 12: a word or message of k bits
+unfoldable pub wordQuestions : ℕ → ℕ → ℕ → ℕ → ℕ → List Question
+wordQuestions N m p k u = polynomialQuestions N m p ++ (below k u ∷ [])
 
 -- a message has K = N - m bits
 unfoldable pub appendCall : ℕ → ℕ → ℕ → ℕ → Answer
-appendCall N m p f = unless (firstNo (polynomialQuestions N m p ++ (below (N - m) f ∷ []))) (word (append m p f))
+appendCall N m p f = unless refused (firstNo (wordQuestions N m p (N - m) f)) (word (append m p f))
 
 unfoldable pub stripCall : ℕ → ℕ → ℕ → ℕ → Answer
-stripCall N m p u = unless (firstNo (polynomialQuestions N m p ++ (below N u ∷ []))) (strip m p u)
+stripCall N m p u = unless refused (firstNo (wordQuestions N m p N u)) (strip m p u)
 
 unfoldable pub testCall : ℕ → ℕ → ℕ → ℕ → Answer
-testCall N m p u = unless (firstNo (polynomialQuestions N m p ++ (below N u ∷ []))) (test m p u)
+testCall N m p u = unless refused (firstNo (wordQuestions N m p N u)) (test m p u)

@@ -55,3 +55,8 @@ module _ {A B C : Type 0} where
   unfolding flatMap
   flatMap-map f g [] = refl
   flatMap-map f g (x ∷ xs) = ap (λ l. f (g x) ++ l) (flatMap-map f g xs)
+
+-- images that agree at every member
+pub map-cong-on : {A B : Type 0} (f g : A → B) (xs : List A) → ((x : A) → List·Memᴰ x xs → f x ≡ g x) → map f xs ≡ map g xs
+map-cong-on f g [] h = refl
+map-cong-on f g (x ∷ xs) h = ap₂ _∷_ (h x (List·Memᴰ·head refl)) (map-cong-on f g xs (λ y m. h y (List·Memᴰ·tail m)))

@@ -1,7 +1,7 @@
 -- How long the lists of `specs/Lists.antt` are, and what stands where in ranges, their images and padded lists.
 -- Assumes nothing.
 use Prim.Native.Nat.{ℕ, zero, suc, _+_, _-_, _≤_, _<_}
-use native.Mathlib.Nat.{add-zero, le-of-suc-le-suc}
+use native.Mathlib.Nat.{add-zero, add-suc, suc-add, le-of-suc-le-suc}
 use native.Mathlib.Omega.{arith}
 use mathlib.Core.Path.{_≡_, refl, sym, ap, ap₂, _∙_, fun-ext}
 use mathlib.Core.Bool.{Bool, true, false, cond}
@@ -100,3 +100,9 @@ total-upFrom f n (suc k) =
   where
     shift : (j : ℕ) → suc n + j ≡ n + suc j
     shift j = omega arith
+
+-- the last number of a range
+pub upFrom-last : (n k : ℕ) → upFrom n (suc k) ≡ upFrom n k ++ ((n + k) ∷ [])
+unfolding upFrom
+upFrom-last n zero = ap (λ (x : ℕ). x ∷ []) (sym (add-zero n))
+upFrom-last n (suc k) = ap (λ (l : List ℕ). n ∷ l) (upFrom-last (suc n) k ∙ ap (λ (x : ℕ). upFrom (suc n) k ++ (x ∷ [])) (suc-add n k ∙ sym (add-suc n k)))

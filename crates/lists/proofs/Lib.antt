@@ -3,6 +3,7 @@ pub mod Member
 pub mod Sums
 pub mod Lengths
 pub mod Scan
+pub mod Stores
 pub mod Sorted
 pub mod Keys
 pub mod Least

@@ -4,10 +4,12 @@ use mathlib.Core.Path.{_≡_, refl, sym, ap, _∙_}
 use mathlib.Core.Bool.{Bool, true, false, _&&_, _||_}
 use mathlib.Core.List.{List, [], _∷_}
 use Prim.Native.Nat.{ℕ, zero, suc, _+_, _≤_, _<_}
+use native.Mathlib.Nat.{not-suc-le-zero, le-of-suc-le-suc}
 use native.Mathlib.Numerals.{add-one}
 use lib.ListN.{length, getD, drop, drop-of-length-le}
 use lib.Seq.{drop-cons}
 use Rattle.lists.specs.Lists.{all, any}
+use Rattle.lists.proofs.Tests.{both}
 
 module _ {A : Type 0} (f : A → Bool) (xs : List A) (d : A) where
   -- the members from i on are the one at i and those from i + 1 on
@@ -43,3 +45,10 @@ module _ {A : Type 0} (f : A → Bool) (xs : List A) (d : A) where
 
   pub any-goes-on : (i : ℕ) → i < length xs → f (getD xs i d) ≡ false → any f (drop i xs) ≡ any f (drop (i + 1) xs)
   any-goes-on i h e = any-next i h ∙ ap (λ (b : Bool). b || any f (drop (i + 1) xs)) e
+
+-- where all pass, each does
+pub all-at : {A : Type 0} (f : A → Bool) (xs : List A) (d : A) (i : ℕ) → all f xs ≡ true → i < length xs → f (getD xs i d) ≡ true
+unfolding all
+all-at f [] d i e h = absurd (not-suc-le-zero h)
+all-at f (x ∷ xs) d zero e h = both (f x) (all f xs) e .0
+all-at f (x ∷ xs) d (suc i) e h = all-at f xs d i (both (f x) (all f xs) e .1) (le-of-suc-le-suc h)

@@ -1,6 +1,6 @@
 -- What a test made of tests says: `&&` is both, `||` one of the two, `not` the failure; and every test passes or fails.
 -- Assumes nothing.
-use mathlib.Core.Path.{_≡_, refl, sym, ap}
+use mathlib.Core.Path.{_≡_, refl, sym, ap, subst}
 use mathlib.Core.Bool.{Bool, true, false, not, _&&_, _||_}
 use mathlib.Core.Logic.{_↔_, _⊎_, inl, inr}
 use lib.Dec.{T, T-not, not-T}
@@ -34,3 +34,7 @@ and-yes a b e = sym (ap (λ (x : Bool). x && b) e)
 
 pub and-no : (a b : Bool) → a ≡ false → false ≡ (a && b)
 and-no a b e = sym (ap (λ (x : Bool). x && b) e)
+
+pub both : (a b : Bool) → (a && b) ≡ true → (a ≡ true) × (b ≡ true)
+both true b e = (refl, e)
+both false b e = absurd (subst T (sym e) tt)

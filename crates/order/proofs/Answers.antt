@@ -5,10 +5,10 @@ use mathlib.Core.Bool.{Bool, true, false, _&&_}
 use Prim.Native.Nat.{ℕ, _+_, _*_, _/_, _%_, _^_, _≤_, _<_}
 use native.Mathlib.Nat.{div-eq-of-lt, lt-of-lt-of-le}
 use native.Mathlib.Omega.{arith}
-use borrow.Author.Tests.{lt-ltb, le-ltb, lt-leb, le-leb, eq-eqb, ne-eqb}
+use borrow.Author.Tests.{leb-true, ltb-true, lt-ltb, le-ltb, lt-leb, le-leb, eq-eqb, ne-eqb}
 use lib.Dec.{leb, ltb, eqb}
 use lib.Pow.{pow-lt, pow-mono}
-use Rattle.lists.proofs.Tests.{and-yes, and-no}
+use Rattle.lists.proofs.Tests.{and-yes, and-no, both}
 use Rattle.poly.specs.Poly.{bit}
 use Rattle.poly.proofs.Shifts.{shl-one}
 use Rattle.order.specs.Questions.{from-to, inRange, hasBit}
@@ -47,3 +47,13 @@ has-bit j g x e f = eq-eqb (bit j g) 1 (sym e ∙ f)
 pub has-no-bit : (j g x : ℕ) → x ≡ bit j g → (x ≡ 1 → ⊥) → hasBit j g ≡ false
 unfolding hasBit
 has-no-bit j g x e n = ne-eqb (bit j g) 1 (λ f. n (e ∙ f))
+
+-- ---- the comparisons, from the answers
+
+pub range : (low high x : ℕ) → from-to low high x ≡ true → (low ≤ x) × (x ≤ high)
+unfolding from-to
+range low high x e = (leb-true low x (both (leb low x) (leb x high) e .0), leb-true x high (both (leb low x) (leb x high) e .1))
+
+pub below-of-range : (v g : ℕ) → inRange v g ≡ true → g < 2 ^ (v + 1)
+unfolding inRange
+below-of-range v g e = ltb-true g (2 ^ (v + 1)) (both (ltb 0 g) (ltb g (2 ^ (v + 1))) e .1)

@@ -7,7 +7,7 @@ use Prim.Native.Nat.{ℕ, zero, suc, _<_}
 use native.Mathlib.Nat.{suc-ne-zero}
 use lib.Dec.{T, ltb}
 use Rattle.lists.specs.Lists.{all}
-use Rattle.order.specs.Questions.{Question, firstNo}
+use Rattle.order.specs.Questions.{Question, firstNo, unless}
 
 -- the first number, or where it is 0 the second
 abbrev pub orElse : ℕ → ℕ → ℕ
@@ -52,7 +52,31 @@ firstNo-++ (q ∷ qs) rest n = by (firstNo-++ qs rest (n .1)) (q .1)
     by later true = later
     by later false = numbered-or (q .0) (firstNo rest) (n .0)
 
--- no refusal: every question says yes
+-- a first part that refuses, and one that does not
+pub refused-first : (qs rest : List Question) (r : ℕ) → Numbered qs → r ≡ firstNo qs → (r ≡ 0 → ⊥) → r ≡ firstNo (qs ++ rest)
+refused-first qs rest r n e nz = e ∙ by (firstNo qs) (λ z. nz (e ∙ z)) ∙ sym (firstNo-++ qs rest n)
+  where
+    by : (k : ℕ) → (k ≡ 0 → ⊥) → k ≡ orElse k (firstNo rest)
+    by zero h = absurd (h refl)
+    by (suc k) h = refl
+
+pub refused-later : (qs rest : List Question) (r x : ℕ) → Numbered qs → r ≡ firstNo qs → r ≡ 0 → x ≡ firstNo rest → x ≡ firstNo (qs ++ rest)
+refused-later qs rest r x n e z ex = ex ∙ ap (λ (k : ℕ). orElse k (firstNo rest)) (sym z ∙ e) ∙ sym (firstNo-++ qs rest n)
+
+-- ---- a call's answer
+
+module _ {A : Type 0} (refused : ℕ → A) (answer : A) where
+  pub is-refused : (r n : ℕ) → r ≡ n → (r ≡ 0 → ⊥) → refused r ≡ unless refused n answer
+  unfolding unless
+  is-refused zero n e nz = absurd (nz refl)
+  is-refused (suc r) n e nz = ap (λ (k : ℕ). unless refused k answer) e
+
+  pub is-answered : (n : ℕ) → 0 ≡ n → answer ≡ unless refused n answer
+  unfolding unless
+  is-answered n e = ap (λ (k : ℕ). unless refused k answer) e
+
+-- ---- no refusal: every question says yes
+
 pub yes-of-firstNo : (qs : List Question) → Numbered qs → firstNo qs ≡ 0 → AllYes qs
 unfolding firstNo
 yes-of-firstNo [] n e = tt

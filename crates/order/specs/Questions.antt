@@ -18,6 +18,11 @@ unfoldable pub firstNo : List Question → ℕ
 firstNo [] = 0
 firstNo (q ∷ qs) = let rest = firstNo qs in cond (q .1) rest (q .0)
 
+-- what a call answers: its answer where no question says no, and else the refusal with that question's number
+unfoldable pub unless : {A : Type 0} → (ℕ → A) → ℕ → A → A
+unless refused zero answer = answer
+unless refused (suc k) answer = refused (suc k)
+
 unfoldable pub from-to : ℕ → ℕ → ℕ → Bool
 from-to low high x = leb low x && leb x high
 
@@ -66,3 +71,13 @@ checkPolynomial m p = (11, eqb (p / 2 ^ m) 1 && eqb (bit 0 p) 1)
 -- a word of N bits; a message of K = N - m bits likewise
 abbrev pub below : ℕ → ℕ → Question
 below N u = (12, ltb u (2 ^ N))
+
+-- ---- the questions that calls ask together
+
+-- 3, 4 and 5, of n generators
+unfoldable pub shapeQuestions : ℕ → ℕ → ℕ → List Question
+shapeQuestions n v N = generatorCount n ∷ memory v ∷ wordLength v N ∷ []
+
+-- 8 and 9
+unfoldable pub generatorQuestions : ℕ → List ℕ → List Question
+generatorQuestions v gs = generatorRange v gs ∷ generatorEnds v gs ∷ []

@@ -5,7 +5,7 @@ ghost use Prim.Native.Nat.{_+_, _/_, _^_, _<_};
 ghost use lib.Dec.{ltb, eqb};
 ghost use Rattle.lists.specs.Lists.{all, any};
 ghost use Rattle.poly.specs.Poly.{bit};
-ghost use Rattle.order.specs.Questions.{from-to, inRange, hasBit};
+ghost use Rattle.order.specs.Questions.{firstNo, from-to, inRange, hasBit, shapeQuestions, generatorQuestions};
 
 pub fn from_to(low: u64, high: u64, x: u64) -> bool
     ensures { λ r. ⌜ r ≡ from-to low high x ⌝ }
@@ -81,4 +81,44 @@ pub fn some_has_bit(j: u64, generators: &[u64]) -> bool
         i += 1;
     }
     false
+}
+
+// Questions 3, 4 and 5: the number of the first that says no, or 0.
+pub fn ask_shape(n: u64, v: u64, bits: u64) -> u64
+    ensures { λ r. ⌜ r ≡ firstNo (shapeQuestions n v bits) ⌝ }
+{
+    if !from_to(2, 4, n) {
+        return 3;
+    }
+    if !from_to(1, 8, v) {
+        return 4;
+    }
+    if !from_to(v, 128, bits) {
+        return 5;
+    }
+    0
+}
+
+// Has some generator bit v, and some generator bit 0?
+pub fn ends_reached(v: u64, generators: &[u64]) -> bool
+    ensures { λ r. ⌜ r ≡ (any (hasBit v) (now (generators .entry)) && any (hasBit 0) (now (generators .entry))) ⌝ }
+{
+    if some_has_bit(v, generators) {
+        return some_has_bit(0, generators);
+    }
+    false
+}
+
+// Questions 8 and 9: the number of the first that says no, or 0.
+pub fn ask_generators(v: u64, generators: &[u64]) -> u64
+    requires { ⌜ v < 63 ⌝ }
+    ensures { λ r. ⌜ r ≡ firstNo (generatorQuestions v (now (generators .entry))) ⌝ }
+{
+    if !all_in_range(v, generators) {
+        return 8;
+    }
+    if !ends_reached(v, generators) {
+        return 9;
+    }
+    0
 }

@@ -1,0 +1,52 @@
+-- The invariant: zeros up to i, and the rest as it was.
+-- Assumes nothing.
+use mathlib.Core.Path.{_≡_, refl, sym, ap, _∙_, subst, subst⁻¹}
+use mathlib.Core.List.{_++_}
+use Prim.Native.Nat.{_-_, _≤_, zero-le}
+use native.Mathlib.Omega.{arith}
+use borrow.Author.Fill.{fill-more}
+use lib.ListN.{length, replicate, drop, set, length-set}
+use Rattle.lists.proofs.Stores.{filled-all}
+use Rattle.code.proofs.encoder.clear.Statement.{statement}
+use Rattle.code.proofs.encoder.clear.Tie as tie
+
+abbrev Inv-loop : tie.InvT-loop
+Inv-loop output₀ i₀ output i = (i ≤ length output₀) × (length output ≡ length output₀) × (output ≡ replicate i 0 ++ drop i output₀)
+
+abbrev μ-loop : tie.MeasureT-loop
+μ-loop output₀ i₀ output i = length output - i
+
+loop-holds : tie.Need-loop-holds Inv-loop μ-loop
+loop-holds c = (zero-le, refl, refl)
+
+slice-write-output : tie.Need-slice-write-output Inv-loop μ-loop
+slice-write-output c = omega arith
+
+add-i : tie.Need-add-i Inv-loop μ-loop
+add-i c = omega arith
+
+loop-less : tie.Need-loop-less Inv-loop μ-loop
+loop-less c = simp length-set (omega arith)
+
+loop-again : tie.Need-loop-again Inv-loop μ-loop
+loop-again c = let l = c .before .loop in let o = c .before .before .args .output .now in (omega arith, length-set (l .output) (l .i) 0 ∙ l .inv .1, ap (λ x. set x (l .i) 0) (l .inv .2) ∙ fill-more (l .i) 0 o (omega arith))
+
+same-length : tie.Need-same-length Inv-loop μ-loop
+same-length c = c .before .loop .inv .1
+
+returns : tie.Need-returns Inv-loop μ-loop
+returns c = let l = c .before .loop in l .inv .2 ∙ filled-all (l .i) _ (c .before .before .args .output .now) (omega arith)
+
+pub clear-spec : {M : Type 1} → statement M
+clear-spec =
+    tie.close
+    (tie.spec
+    Inv-loop
+    μ-loop
+    loop-holds
+    slice-write-output
+    add-i
+    loop-less
+    loop-again
+    same-length
+    returns)

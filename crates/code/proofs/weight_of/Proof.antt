@@ -1,0 +1,69 @@
+-- The invariant: the total so far, and what the generators from i on weigh, are the whole.
+-- Assumes nothing.
+use borrow.Author.Needs.{needs}
+use mathlib.Core.Path.{_≡_, refl, sym, ap, _∙_, subst, subst⁻¹}
+use Prim.Native.Nat.{ℕ, _+_, _-_, _*_, _≤_, zero-le}
+use native.Mathlib.Nat.{zero-add}
+use native.Mathlib.Omega.{arith}
+use lib.ListN.{length, drop, getD}
+use Rattle.lists.proofs.Scan.{all-at}
+use Rattle.poly.specs.Word.{number}
+use Rattle.order.proofs.Answers.{below-of-range}
+use Rattle.code.specs.Weight.{weight}
+use Rattle.code.proofs.Weights.{weight-more, weight-end, ones-output-le}
+use Rattle.code.proofs.weight_of.Statement.{statement}
+use Rattle.code.proofs.weight_of.Tie as tie
+
+abbrev Inv-loop : tie.InvT-loop
+Inv-loop generators v bits word total₀ i₀ total i =
+    (i ≤ length generators) × (total ≤ 128 * i) × (total + weight bits (drop i generators) (number word) ≡ weight bits generators (number word))
+
+abbrev μ-loop : tie.MeasureT-loop
+μ-loop generators v bits word total₀ i₀ total i = length generators - i
+
+loop-holds : tie.Need-loop-holds Inv-loop μ-loop
+loop-holds c = (zero-le, zero-le, zero-add _)
+
+mul-cyclic-product : tie.Need-mul-cyclic-product Inv-loop μ-loop
+mul-cyclic-product c = search needs
+
+shared-slice-read-cyclic-product : tie.Need-shared-slice-read-cyclic-product Inv-loop μ-loop
+shared-slice-read-cyclic-product c = omega arith
+
+cyclic-product-requires : tie.Need-cyclic-product-requires Inv-loop μ-loop
+cyclic-product-requires c κs = let a = c .before .before .before .before .args in let p = c .before .before .before .before .pre in (p .0, p .1, p .2, p .4, below-of-range (a .v) _ (all-at _ (a .generators .now) 0 (c .before .before .loop .i) (p .5) (omega arith)))
+
+count-requires : tie.Need-count-requires Inv-loop μ-loop
+count-requires c κs = tt
+
+add-total : tie.Need-add-total Inv-loop μ-loop
+add-total c = let p = c .before .before .before .before .before .before .pre in let l = c .before .before .before .before .loop .inv in omega (arith, ones-output-le _ _ _ _ _ (p .0) (p .1) (c .before .cyclic-product .ensures) (c .count .ensures))
+
+add-i : tie.Need-add-i Inv-loop μ-loop
+add-i c = omega arith
+
+loop-less : tie.Need-loop-less Inv-loop μ-loop
+loop-less c = omega arith
+
+loop-again : tie.Need-loop-again Inv-loop μ-loop
+loop-again c = let p = c .before .before .before .before .before .before .pre in let a = c .before .before .before .before .before .before .args in let l = c .before .before .before .before .loop in (omega arith, omega (arith, ones-output-le _ _ _ _ _ (p .0) (p .1) (c .before .cyclic-product .ensures) (c .count .ensures)), weight-more _ (a .generators .now) _ (l .i) _ _ _ (omega arith) (l .inv .2) (c .before .cyclic-product .ensures) (c .count .ensures))
+
+returns : tie.Need-returns Inv-loop μ-loop
+returns c = let a = c .before .before .before .args in let l = c .before .loop in weight-end _ (a .generators .now) _ (l .i) _ (omega arith) (l .inv .2)
+
+pub weight-of-spec : {M : Type 1} → statement M
+weight-of-spec =
+    tie.close
+    (tie.spec
+    Inv-loop
+    μ-loop
+    loop-holds
+    mul-cyclic-product
+    shared-slice-read-cyclic-product
+    cyclic-product-requires
+    count-requires
+    add-total
+    add-i
+    loop-less
+    loop-again
+    returns)

@@ -1,0 +1,31 @@
+-- The first of two tests that fails, or none.
+-- Assumes nothing.
+use mathlib.Core.Path.{_≡_, refl, sym, ap, _∙_}
+use borrow.Author.Tests.{not-true, not-false}
+use Rattle.order.proofs.FirstNo.{firstNo-none, firstNo-yes, firstNo-no}
+use Rattle.order.specs.Questions.{generatorQuestions}
+use borrow.Author.Needs.{needs}
+use Rattle.order.proofs.questions.ask_generators.Statement.{statement}
+use Rattle.order.proofs.questions.ask_generators.Tie as tie
+
+all-in-range-requires : tie.Need-all-in-range-requires
+all-in-range-requires c κs = search needs
+
+returns : tie.Need-returns
+unfolding generatorQuestions
+returns c = sym (firstNo-no _ _ (sym (c .before .all-in-range .ensures) ∙ not-true _ (c .if1 .taken)))
+
+ends-reached-requires : tie.Need-ends-reached-requires
+ends-reached-requires c κs = search needs
+
+returns-2 : tie.Need-returns-2
+unfolding generatorQuestions
+returns-2 c = sym (firstNo-yes _ _ (sym (c .before .before .before .all-in-range .ensures) ∙ not-false _ (c .before .before .if1 .left)) ∙ firstNo-no _ _ (sym (c .before .ends-reached .ensures) ∙ not-true _ (c .if2 .taken)))
+
+returns-3 : tie.Need-returns-3
+unfolding generatorQuestions
+returns-3 c = sym (firstNo-yes _ _ (sym (c .before .before .before .all-in-range .ensures) ∙ not-false _ (c .before .before .if1 .left)) ∙ firstNo-yes _ _ (sym (c .before .ends-reached .ensures) ∙ not-false _ (c .if2 .left)) ∙ firstNo-none)
+
+pub ask-generators-spec : {M : Type 1} → statement M
+ask-generators-spec =
+    tie.close (tie.spec all-in-range-requires returns ends-reached-requires returns-2 returns-3)

@@ -1,0 +1,198 @@
+//! The link itself: encoder, weight, and the check remainder of a word.
+
+use crate::poly;
+use crate::questions::{self, Asked, Refusal};
+
+/// A tail-biting code as the encoder takes it: no question is asked before a
+/// call.
+#[derive(Clone, Copy, Debug)]
+pub struct Code<'a> {
+    /// The memory v.
+    pub memory: usize,
+    /// The length N.
+    pub length: usize,
+    /// The n generators.
+    pub generators: &'a [u64],
+}
+
+impl Code<'_> {
+    /// Questions 3, 4, 5, 8 and 9.
+    fn ask(&self) -> Asked {
+        questions::generator_count(self.generators.len())?;
+        questions::memory(self.memory)?;
+        questions::length(self.memory, self.length)?;
+        questions::generators(self.memory, self.generators)
+    }
+}
+
+/// The codeword of a word: n bits for each step, the first generator first,
+/// each bit a byte. `room` is the size of the output that is to take it.
+pub fn encode(code: Code, word: u128, room: usize) -> Result<Vec<u8>, Refusal> {
+    code.ask()?;
+    questions::codeword_room(room, code.generators.len(), code.length)?;
+    questions::below_power(word, code.length)?;
+    let outputs: Vec<u128> = outputs(code, word).collect();
+    let bits = (0..code.length).flat_map(|t| outputs.iter().map(move |out| (out >> t & 1) as u8));
+    Ok(bits.collect())
+}
+
+/// The weight of a word: the number of ones in all n outputs.
+pub fn weight(code: Code, word: u128) -> Result<u32, Refusal> {
+    code.ask()?;
+    questions::below_power(word, code.length)?;
+    Ok(outputs(code, word).map(u128::count_ones).sum())
+}
+
+fn outputs(code: Code<'_>, word: u128) -> impl Iterator<Item = u128> + '_ {
+    code.generators
+        .iter()
+        .map(move |&g| poly::cyclic_product(word, g, code.length))
+}
+
+/// What stripping a word gives.
+#[derive(Clone, Copy, Debug, PartialEq, Eq)]
+pub enum Stripped {
+    /// The message: the polynomial divides the word.
+    Message(u128),
+    /// The remainder, not zero.
+    Remainder(u64),
+}
+
+/// The word of a message f: x^m f plus the remainder of x^m f.
+pub fn append(length: usize, m: usize, p: u64, message: u128) -> Result<u128, Refusal> {
+    ask_check(length, m, p)?;
+    questions::below_power(message, length - m)?;
+    let shifted = message << m;
+    Ok(shifted ^ u128::from(poly::remainder(shifted, p)))
+}
+
+/// The message of a word, or the nonzero remainder.
+pub fn strip(length: usize, m: usize, p: u64, word: u128) -> Result<Stripped, Refusal> {
+    ask_check(length, m, p)?;
+    questions::below_power(word, length)?;
+    Ok(match poly::remainder(word, p) {
+        0 => Stripped::Message(word >> m),
+        rest => Stripped::Remainder(rest),
+    })
+}
+
+/// Whether the polynomial divides the word.
+pub fn divides(length: usize, m: usize, p: u64, word: u128) -> Result<bool, Refusal> {
+    ask_check(length, m, p)?;
+    questions::below_power(word, length)?;
+    Ok(poly::divides(p, word))
+}
+
+/// Questions 5, 6 and 11 of a call that takes no code.
+fn ask_check(length: usize, m: usize, p: u64) -> Asked {
+    questions::length(1, length)?;
+    questions::degree(m, length)?;
+    questions::polynomial(p, m)
+}
+
+#[cfg(test)]
+mod tests {
+    use super::*;
+    use Refusal::No;
+
+    const S: Code = Code {
+        memory: 1,
+        length: 4,
+        generators: &[1, 3],
+    };
+
+    #[test]
+    fn hand_rows_of_append() {
+        assert_eq!(append(4, 2, 0x7, 1), Ok(7));
+        assert_eq!(append(4, 2, 0x5, 3), Ok(15));
+    }
+
+    #[test]
+    fn messages_come_back() {
+        for (length, m) in [(2, 1), (4, 2), (9, 3), (12, 11)] {
+            for p in poly::candidates(m) {
+                for f in 0..1u128 << (length - m) {
+                    let word = append(length, m, p, f).unwrap();
+                    assert_eq!(strip(length, m, p, word), Ok(Stripped::Message(f)));
+                    let bad = strip(length, m, p, word ^ 1);
+                    assert_eq!(bad, Ok(Stripped::Remainder(1)));
+                    assert_eq!(divides(length, m, p, word), Ok(true));
+                    assert_eq!(divides(length, m, p, word ^ 1), Ok(false));
+                }
+            }
+        }
+    }
+
+    #[test]
+    fn the_longest_messages_come_back() {
+        for f in [
+            0,
+            1,
+            1 << 115,
+            (1 << 116) - 1,
+            0x1234_5678_9ABC_DEF0_0FED_CBA9,
+        ] {
+            let word = append(128, 12, 0x1565, f).unwrap();
+            assert_eq!(strip(128, 12, 0x1565, word), Ok(Stripped::Message(f)));
+        }
+        assert_eq!(append(128, 12, 0x1565, 1 << 116), Err(No(12)));
+    }
+
+    #[test]
+    fn check_calls_ask_in_order() {
+        assert_eq!(append(0, 13, 0, !0), Err(No(5)));
+        assert_eq!(strip(129, 2, 0x5, 0), Err(No(5)));
+        assert_eq!(append(1, 1, 0x3, 0), Err(No(6)));
+        assert_eq!(append(4, 2, 0x6, 9), Err(No(11)));
+        assert_eq!(append(4, 2, 0xD, 0), Err(No(11)));
+        assert_eq!(append(4, 2, 0x5, 4), Err(No(12)));
+        assert_eq!(strip(4, 2, 0x5, 16), Err(No(12)));
+        assert_eq!(divides(4, 2, 0x5, 16), Err(No(12)));
+    }
+
+    #[test]
+    fn the_codeword_stands_step_by_step() {
+        // Word 1: the first output is 1000, the second 1100.
+        assert_eq!(encode(S, 1, 8).unwrap(), [1, 1, 0, 1, 0, 0, 0, 0]);
+        assert_eq!(weight(S, 1), Ok(3));
+        assert_eq!(weight(S, 5), Ok(6));
+        assert_eq!(weight(S, 10), Ok(6));
+        let all = Code {
+            memory: 8,
+            length: 128,
+            generators: &[0o561, 0o753],
+        };
+        assert_eq!(encode(all, !0, 256).unwrap(), [1; 256]);
+    }
+
+    #[test]
+    fn encoder_calls_ask_in_order() {
+        let none = Code {
+            memory: 0,
+            length: 0,
+            generators: &[0],
+        };
+        assert_eq!(encode(none, !0, 0), Err(No(3)));
+        let two = Code {
+            generators: &[0, 0],
+            ..none
+        };
+        assert_eq!(encode(two, !0, 0), Err(No(4)));
+        let short = Code {
+            memory: 2,
+            length: 1,
+            generators: &[0, 0],
+        };
+        assert_eq!(encode(short, !0, 0), Err(No(5)));
+        let zero = Code { length: 2, ..short };
+        assert_eq!(weight(zero, !0), Err(No(8)));
+        let no_end = Code {
+            generators: &[1, 3],
+            ..zero
+        };
+        assert_eq!(weight(no_end, !0), Err(No(9)));
+        assert_eq!(encode(S, 16, 7), Err(No(10)));
+        assert_eq!(encode(S, 16, 8), Err(No(12)));
+        assert_eq!(weight(S, 16), Err(No(12)));
+    }
+}

@@ -1,0 +1,194 @@
+//! The row of an order: questions 11, 13, 14 and 15, and the counts.
+
+use crate::events;
+use crate::order::Order;
+use crate::paths;
+use crate::questions::{self, Refusal};
+use crate::search::{self, Best, Counter};
+use crate::table::Table;
+use crate::words::Words;
+
+/// The lent tables, as far as an answer depends on them.
+#[derive(Clone, Copy, Debug)]
+pub struct Lent {
+    /// Entries of the event table.
+    pub events: usize,
+    /// Entries of the path table.
+    pub paths: usize,
+}
+
+impl Default for Lent {
+    /// What `dso` lends.
+    fn default() -> Lent {
+        Lent {
+            events: 512,
+            paths: 2048,
+        }
+    }
+}
+
+/// How counts are made.
+#[derive(Clone, Copy, Debug, PartialEq, Eq)]
+pub enum Method {
+    /// All words one by one, N up to 20.
+    Words,
+    /// A table moved through the trellis.
+    Table,
+    /// Both, compared; the table alone where N is above 20.
+    Both,
+}
+
+/// A row as `dso` prints it.
+#[derive(Clone, Debug, PartialEq, Eq)]
+pub struct Row {
+    /// The order.
+    pub order: Order,
+    /// How many events are listed.
+    pub events: usize,
+    /// How many paths are listed.
+    pub paths: u128,
+    /// Plain counts by weight.
+    pub plain: Vec<u128>,
+    /// Undetected counts by weight.
+    pub undetected: Vec<u128>,
+    /// The polynomial given, or the best one.
+    pub polynomial: u64,
+}
+
+/// Why there is no row.
+#[derive(Clone, Debug, PartialEq, Eq)]
+pub enum Failure {
+    /// The answer is a refusal.
+    Refused(Refusal),
+    /// The words were asked for, but the order is too long for them.
+    TooLong,
+    /// The two methods differ: what each of them gave.
+    Disagree(String),
+}
+
+impl From<Refusal> for Failure {
+    fn from(refusal: Refusal) -> Failure {
+        Failure::Refused(refusal)
+    }
+}
+
+/// The row of an order: of the polynomial given, or else of the best one.
+pub fn row(order: &Order, lent: Lent, of: Option<u64>, method: Method) -> Result<Row, Failure> {
+    if let Some(p) = of {
+        questions::polynomial(p, order.degree())?;
+    }
+    let events = events::count(order, lent.events)?;
+    let counted = by(
+        method,
+        order,
+        |words| count(words, order, lent.paths, of),
+        || count(&mut Table::new(order), order, lent.paths, of),
+    )??;
+    let Counted { plain, best } = counted;
+    match best.who[..] {
+        [polynomial] => {
+            let paths = plain.iter().sum();
+            Ok(Row {
+                order: order.clone(),
+                events,
+                paths,
+                plain,
+                undetected: best.counts,
+                polynomial,
+            })
+        }
+        _ => Err(Failure::Refused(Refusal::Tie(best.who.len()))),
+    }
+}
+
+/// The paths of an order, weight and number each, after questions 13 and 14.
+pub fn paths(order: &Order, lent: Lent, method: Method) -> Result<Vec<(u32, u128)>, Failure> {
+    events::count(order, lent.events)?;
+    by(
+        method,
+        order,
+        |words| {
+            plain_within(words, order.threshold(), lent.paths)?;
+            Ok(words.paths())
+        },
+        || {
+            let mut table = Table::new(order);
+            plain_within(&mut table, order.threshold(), lent.paths)?;
+            Ok::<_, Failure>(paths::list(&table, order.threshold()))
+        },
+    )?
+}
+
+/// Plain counts, and the best counts with the candidates that have them.
+#[derive(Clone, Debug, PartialEq, Eq)]
+pub struct Counted {
+    /// Plain counts by weight.
+    pub plain: Vec<u128>,
+    /// The best undetected counts, or those of the polynomial given.
+    pub best: Best,
+}
+
+/// Question 14 and all counts, by one method. A polynomial given stands alone.
+pub fn count(
+    counter: &mut impl Counter,
+    order: &Order,
+    capacity: usize,
+    of: Option<u64>,
+) -> Result<Counted, Refusal> {
+    let plain = plain_within(counter, order.threshold(), capacity)?;
+    let best = match of {
+        Some(p) => Best {
+            counts: counter.undetected(p, plain.len()),
+            who: vec![p],
+        },
+        None => search::best(counter, order.degree(), &plain),
+    };
+    Ok(Counted { plain, best })
+}
+
+/// Plain counts below d, or refusal 14. The threshold rises, so that a great
+/// many paths are noticed where they are still few.
+fn plain_within(
+    counter: &mut impl Counter,
+    d: usize,
+    capacity: usize,
+) -> Result<Vec<u128>, Refusal> {
+    let mut plain = Vec::new();
+    for below in 1..=d {
+        plain = counter.plain(below);
+        let paths = plain
+            .iter()
+            .fold(0u128, |sum, &count| sum.saturating_add(count));
+        if paths > capacity as u128 {
+            return Err(Refusal::No(14));
+        }
+    }
+    Ok(plain)
+}
+
+/// What the method asked for gives; both, and compared, where both apply.
+fn by<A: PartialEq + std::fmt::Debug>(
+    method: Method,
+    order: &Order,
+    from_words: impl FnOnce(&mut Words) -> A,
+    from_table: impl FnOnce() -> A,
+) -> Result<A, Failure> {
+    if method == Method::Table {
+        return Ok(from_table());
+    }
+    match (Words::new(order), method) {
+        (None, Method::Words) => Err(Failure::TooLong),
+        (None, _) => Ok(from_table()),
+        (Some(mut words), Method::Words) => Ok(from_words(&mut words)),
+        (Some(mut words), _) => {
+            let (one, other) = (from_words(&mut words), from_table());
+            if one == other {
+                Ok(one)
+            } else {
+                Err(Failure::Disagree(format!(
+                    "words give {one:?}, table gives {other:?}"
+                )))
+            }
+        }
+    }
+}

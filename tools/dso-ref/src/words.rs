@@ -1,0 +1,72 @@
+//! Counting by taking all words one by one, straight from the definition.
+
+use crate::order::Order;
+use crate::poly;
+use crate::search::Counter;
+
+/// The greatest length at which all words are taken.
+pub const LONGEST: usize = 20;
+
+/// The nonzero words of a code below the threshold, by weight.
+pub struct Words {
+    by_weight: Vec<Vec<u128>>,
+}
+
+impl Words {
+    /// Weighs the words 1 to 2^N - 1; nothing where N is above `LONGEST`.
+    pub fn new(order: &Order) -> Option<Words> {
+        if order.length() > LONGEST {
+            return None;
+        }
+        let mut by_weight = vec![Vec::new(); order.threshold()];
+        for u in 1..1 << order.length() {
+            if let Some(part) = by_weight.get_mut(weight(order, u)) {
+                part.push(u);
+            }
+        }
+        Some(Words { by_weight })
+    }
+
+    /// The paths: weight and number, ordered by weight, then number.
+    pub fn paths(&self) -> Vec<(u32, u128)> {
+        let parts = (0..).zip(&self.by_weight);
+        parts
+            .flat_map(|(w, part)| part.iter().map(move |&u| (w, u)))
+            .collect()
+    }
+
+    fn undetected_of_weight(&self, p: u64, w: usize) -> u128 {
+        self.by_weight[w]
+            .iter()
+            .filter(|&&u| poly::divides(p, u))
+            .count() as u128
+    }
+}
+
+/// The number of ones in all outputs u g modulo x^N+1.
+fn weight(order: &Order, u: u128) -> usize {
+    let outputs = order
+        .generators()
+        .iter()
+        .map(|&g| poly::cyclic_product(u, g, order.length()));
+    outputs.map(|out| out.count_ones() as usize).sum()
+}
+
+impl Counter for Words {
+    fn plain(&mut self, below: usize) -> Vec<u128> {
+        self.by_weight[..below]
+            .iter()
+            .map(|part| part.len() as u128)
+            .collect()
+    }
+
+    fn undetected(&mut self, p: u64, below: usize) -> Vec<u128> {
+        (0..below)
+            .map(|w| self.undetected_of_weight(p, w))
+            .collect()
+    }
+
+    fn undetected_up_to(&mut self, most: u128, p: u64, w: usize) -> Option<u128> {
+        Some(self.undetected_of_weight(p, w)).filter(|&count| count <= most)
+    }
+}

@@ -1,0 +1,190 @@
+//! The methods against each other and against the definitions written out.
+
+mod common;
+
+use common::Random;
+use dso_ref::events::{self, Event};
+use dso_ref::link::{self, Code};
+use dso_ref::poly;
+use dso_ref::row::{self, count};
+use dso_ref::search::{Best, Counter};
+use dso_ref::table::Table;
+use dso_ref::words::Words;
+use dso_ref::{paths, Failure, Lent, Method, Order, Refusal};
+
+const ALL: usize = usize::MAX;
+
+/// The best counts as the definition has them: of all candidates' counts, those
+/// that none betters.
+fn best_by_definition(words: &mut Words, order: &Order) -> Best {
+    let all: Vec<(Vec<u128>, u64)> = poly::candidates(order.degree())
+        .map(|p| (words.undetected(p, order.threshold()), p))
+        .collect();
+    // Of two lists the lesser is the one with fewer at the first difference.
+    let counts = all.iter().map(|(counts, _)| counts).min().unwrap().clone();
+    let who = all
+        .iter()
+        .filter(|(have, _)| *have == counts)
+        .map(|&(_, p)| p)
+        .collect();
+    Best { counts, who }
+}
+
+#[test]
+fn words_and_table_agree_on_small_orders() {
+    let mut random = Random(1);
+    for _ in 0..4000 {
+        let order = random.order(5, 11, 6, 40);
+        let mut words = Words::new(&order).unwrap();
+        let mut table = Table::new(&order);
+        let by_words = count(&mut words, &order, ALL, None).unwrap();
+        let by_table = count(&mut table, &order, ALL, None).unwrap();
+        assert_eq!(by_words, by_table, "{order}");
+        assert_eq!(
+            by_words.best,
+            best_by_definition(&mut words, &order),
+            "{order}"
+        );
+        let p = random.candidate(order.degree());
+        let of_words = words.undetected(p, order.threshold());
+        assert_eq!(
+            of_words,
+            table.undetected(p, order.threshold()),
+            "{order} {p:X}"
+        );
+        let listed = paths::list(&table, order.threshold());
+        assert_eq!(words.paths(), listed, "{order}");
+    }
+}
+
+#[test]
+fn words_and_table_agree_where_the_memory_is_great() {
+    let mut random = Random(2);
+    for _ in 0..150 {
+        let order = random.order(8, 14, 8, 64);
+        let by_words = count(&mut Words::new(&order).unwrap(), &order, ALL, None).unwrap();
+        let by_table = count(&mut Table::new(&order), &order, ALL, None).unwrap();
+        assert_eq!(by_words, by_table, "{order}");
+    }
+}
+
+#[test]
+fn the_path_table_is_exactly_full_or_one_short() {
+    let mut random = Random(3);
+    for _ in 0..500 {
+        let order = random.order(4, 9, 5, 30);
+        let paths = row::paths(
+            &order,
+            Lent {
+                events: ALL,
+                paths: ALL,
+            },
+            Method::Both,
+        )
+        .unwrap()
+        .len();
+        let with = |paths| row::paths(&order, Lent { events: ALL, paths }, Method::Both);
+        assert_eq!(with(paths).unwrap().len(), paths);
+        if let Some(short) = paths.checked_sub(1) {
+            assert_eq!(
+                with(short),
+                Err(Failure::Refused(Refusal::No(14))),
+                "{order}"
+            );
+        }
+    }
+}
+
+/// The events as the definition has them: every walk of every length.
+fn events_by_definition(order: &Order) -> Vec<Event> {
+    let states = 1usize << order.memory();
+    let mut events = Vec::new();
+    for state in 0..states {
+        for length in 1..=order.length() {
+            for input in 0..1u128 << length {
+                let (mut at, mut weight, mut between) = (state, 0, true);
+                for t in 0..length {
+                    between &= t == 0 || at > state;
+                    let window = 2 * at + (input >> t & 1) as usize;
+                    let ones = |g: &u64| (g & window as u64).count_ones() % 2;
+                    weight += order.generators().iter().map(ones).sum::<u32>();
+                    at = window % states;
+                }
+                if at == state && between && (weight as usize) < order.threshold() {
+                    events.push(Event {
+                        state,
+                        length,
+                        input,
+                        weight,
+                    });
+                }
+            }
+        }
+    }
+    events
+}
+
+#[test]
+fn events_agree_with_their_definition() {
+    let mut random = Random(4);
+    for _ in 0..1000 {
+        let order = random.order(4, 8, 4, 40);
+        let expected = events_by_definition(&order);
+        assert_eq!(
+            events::list(&order, expected.len()),
+            Ok(expected.clone()),
+            "{order}"
+        );
+        assert_eq!(
+            events::count(&order, expected.len()),
+            Ok(expected.len()),
+            "{order}"
+        );
+        if let Some(short) = expected.len().checked_sub(1) {
+            assert_eq!(
+                events::count(&order, short),
+                Err(Refusal::No(13)),
+                "{order}"
+            );
+            assert_eq!(events::list(&order, short), Err(Refusal::No(13)), "{order}");
+        }
+    }
+}
+
+#[test]
+fn the_table_agrees_with_the_listed_paths_of_long_orders() {
+    let mut random = Random(5);
+    let mut checked = 0;
+    while checked < 400 {
+        let order = random.order(6, 128, 12, 24);
+        let p = random.candidate(order.degree());
+        let mut table = Table::new(&order);
+        if let Ok(counted) = count(&mut table, &order, 20_000, Some(p)) {
+            let listed = paths::list(&table, order.threshold());
+            let expected = weighed_and_divided(&order, &listed, p);
+            assert_eq!(
+                (counted.plain, counted.best.counts),
+                expected,
+                "{order} {p:X}"
+            );
+            checked += 1;
+        }
+    }
+}
+
+/// Plain and undetected counts of listed paths, each weighed anew and divided.
+fn weighed_and_divided(order: &Order, listed: &[(u32, u128)], p: u64) -> (Vec<u128>, Vec<u128>) {
+    let mut plain = vec![0; order.threshold()];
+    let mut undetected = plain.clone();
+    let code = Code {
+        memory: order.memory(),
+        length: order.length(),
+        generators: order.generators(),
+    };
+    for &(weight, word) in listed {
+        assert_eq!(link::weight(code, word), Ok(weight), "{order} {word}");
+        plain[weight as usize] += 1;
+        undetected[weight as usize] += u128::from(poly::divides(p, word));
+    }
+    (plain, undetected)
+}

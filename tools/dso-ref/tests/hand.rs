@@ -1,0 +1,127 @@
+//! The rows of document 01 to check by hand, and what it says of each answer.
+
+use dso_ref::events;
+use dso_ref::row::{self, count, row};
+use dso_ref::search::Best;
+use dso_ref::table::Table;
+use dso_ref::words::Words;
+use dso_ref::{Failure, Lent, Method, Order, Refusal, Row};
+
+fn order(length: usize, m: usize, d: usize, generators: &[u64]) -> Order {
+    Order::new(1, length, m, d, generators).unwrap()
+}
+
+fn run(order: &Order, lent: Lent) -> Result<Row, Failure> {
+    row(order, lent, None, Method::Both)
+}
+
+/// Events, paths, undetected counts and polynomial of an accepted row.
+fn short(order: &Order) -> (usize, u128, Vec<u128>, u64) {
+    let row = run(order, Lent::default()).unwrap();
+    (row.events, row.paths, row.undetected, row.polynomial)
+}
+
+fn no(number: u8) -> Result<Row, Failure> {
+    Err(Failure::Refused(Refusal::No(number)))
+}
+
+fn tie(left: usize) -> Result<Row, Failure> {
+    Err(Failure::Refused(Refusal::Tie(left)))
+}
+
+#[test]
+fn code_s_of_length_3() {
+    let s = order(3, 2, 5, &[1, 3]);
+    assert_eq!(short(&s), (4, 7, vec![0, 0, 0, 0, 1], 0x5));
+    let listed: Vec<String> = events::list(&s, 4)
+        .unwrap()
+        .iter()
+        .map(|e| e.to_string())
+        .collect();
+    assert_eq!(listed, ["0 1 0 0", "0 2 3 1", "0 3 4 3", "1 1 1 1"]);
+    assert_eq!(short(&order(3, 2, 4, &[1, 3])).2, [0; 4]);
+    assert_eq!(short(&order(3, 2, 4, &[1, 3])).3, 0x5);
+    assert_eq!(run(&order(3, 2, 3, &[1, 3]), Lent::default()), tie(2));
+}
+
+#[test]
+fn code_s_of_length_4() {
+    let tied = order(4, 2, 5, &[1, 3]);
+    assert_eq!(run(&tied, Lent::default()), tie(2));
+    let shared = Best {
+        counts: vec![0, 0, 0, 0, 1],
+        who: vec![0x5, 0x7],
+    };
+    assert_eq!(
+        count(&mut Table::new(&tied), &tied, 2048, None)
+            .unwrap()
+            .best,
+        shared
+    );
+    assert_eq!(
+        count(&mut Words::new(&tied).unwrap(), &tied, 2048, None)
+            .unwrap()
+            .best,
+        shared
+    );
+    assert_eq!(short(&order(4, 2, 6, &[1, 3])).3, 0x5);
+}
+
+#[test]
+fn words_5_and_10_stand_once_each() {
+    let paths = row::paths(&order(4, 2, 7, &[1, 3]), Lent::default(), Method::Both).unwrap();
+    assert_eq!(paths.len(), 15);
+    assert_eq!(paths[13..], [(6, 5), (6, 10)]);
+}
+
+#[test]
+fn the_shortest_rows() {
+    assert_eq!(short(&order(2, 1, 3, &[1, 3])), (2, 1, vec![0, 0, 1], 0x3));
+    // Word 3 weighs 0.
+    assert_eq!(short(&order(2, 1, 1, &[3, 3])), (2, 1, vec![1], 0x3));
+}
+
+#[test]
+fn tables_exactly_full_and_one_short() {
+    let s = order(4, 2, 6, &[1, 3]);
+    let with = |events, paths| run(&s, Lent { events, paths });
+    assert!(with(5, 13).is_ok());
+    assert_eq!(with(5, 12), no(14));
+    assert_eq!(with(4, 13), no(13));
+    assert_eq!(with(4, 12), no(13));
+}
+
+#[test]
+fn the_longest_and_heaviest_orders_are_answered_at_once() {
+    let few_events = order(128, 12, 64, &[1, 3]);
+    assert_eq!(run(&few_events, Lent::default()), no(14));
+    let many_events = Order::new(8, 128, 12, 64, &[0o561, 0o753]).unwrap();
+    assert_eq!(run(&many_events, Lent::default()), no(13));
+    assert_eq!(run(&order(128, 12, 1, &[1, 3]), Lent::default()), tie(2048));
+}
+
+#[test]
+fn a_polynomial_given_is_asked_about_before_the_tables() {
+    let s = order(4, 2, 6, &[1, 3]);
+    let none = Lent {
+        events: 0,
+        paths: 0,
+    };
+    assert_eq!(row(&s, none, Some(0x4), Method::Both), no(11));
+    assert_eq!(row(&s, none, Some(0x9), Method::Both), no(11));
+    assert_eq!(row(&s, none, Some(0x7), Method::Both), no(13));
+    let seven = row(&s, Lent::default(), Some(0x7), Method::Both).unwrap();
+    assert_eq!(
+        (seven.undetected, seven.polynomial),
+        (vec![0, 0, 0, 0, 1, 2], 0x7)
+    );
+}
+
+#[test]
+fn the_words_alone_end_at_length_20() {
+    let long = order(21, 2, 6, &[1, 3]);
+    assert_eq!(
+        row(&long, Lent::default(), None, Method::Words),
+        Err(Failure::TooLong)
+    );
+}
