@@ -1,2 +1,3 @@
 pub mod Questions
 pub mod Order
+pub mod Answers

@@ -2,12 +2,12 @@
 -- document 01's order of questions 1 to 9.
 -- Assumes nothing.
 use Prim.Native.Nat.{ℕ, zero, suc, _+_, _-_, _*_, _/_, _%_}
-use mathlib.Core.Bool.{_&&_}
+use mathlib.Core.Bool.{Bool, _&&_}
 use mathlib.Core.List.{List, [], _∷_, _++_, map, flatMap}
 use lib.Dec.{leb, eqb}
 use lib.ListN.{length, getD}
 use Rattle.lists.specs.Lists.{upFrom}
-use Rattle.order.specs.Questions.{Question, firstNo, from-to, memory, wordLength, checkDegree, threshold, generatorRange, generatorEnds}
+use Rattle.order.specs.Questions.{Question, firstNo, from-to, orderNumbers, generatorQuestions}
 
 pub record Order : Type 0 where
   -- v: how many earlier inputs the encoder remembers
@@ -36,19 +36,25 @@ unfoldable pub readFields : List ℕ → Order
 readFields bytes =
     record { v = getD bytes 4 0; N = getD bytes 5 0; m = getD bytes 6 0; d = getD bytes 7 0; generators = readGenerators bytes (getD bytes 3 0) }
 
+-- the first two bytes say how many follow
+unfoldable pub lengthRight : List ℕ → Bool
+lengthRight bytes = leb 2 (length bytes) && eqb (be16 bytes 0) (length bytes - 2)
+
+-- there is a version byte, and it is 1
+unfoldable pub versionRight : List ℕ → Bool
+versionRight bytes = leb 3 (length bytes) && eqb (getD bytes 2 0) 1
+
+-- n is there and from 2 to 4, and the length is 6 + 2n
+unfoldable pub countRight : List ℕ → Bool
+countRight bytes = leb 4 (length bytes) && (from-to 2 4 (getD bytes 3 0) && eqb (be16 bytes 0) (6 + 2 * getD bytes 3 0))
+
 -- questions 1 to 3, which are about the record itself
 unfoldable pub recordQuestions : List ℕ → List Question
-recordQuestions bytes =
-    (1, leb 2 (length bytes) && eqb (be16 bytes 0) (length bytes - 2))
-    ∷ (2, leb 3 (length bytes) && eqb (getD bytes 2 0) 1)
-    ∷ (3, leb 4 (length bytes) && from-to 2 4 (getD bytes 3 0) && eqb (be16 bytes 0) (6 + 2 * getD bytes 3 0))
-    ∷ []
+recordQuestions bytes = (1, lengthRight bytes) ∷ (2, versionRight bytes) ∷ (3, countRight bytes) ∷ []
 
 -- questions 4 to 9
 unfoldable pub orderQuestions : Order → List Question
-orderQuestions o =
-    memory (o .v) ∷ wordLength (o .v) (o .N) ∷ checkDegree (o .N) (o .m) ∷ threshold (o .d)
-    ∷ generatorRange (o .v) (o .generators) ∷ generatorEnds (o .v) (o .generators) ∷ []
+orderQuestions o = orderNumbers (o .v) (o .N) (o .m) (o .d) ++ generatorQuestions (o .v) (o .generators)
 
 -- what reading a record gives: an order, or the number of the first question that says no
 pub data Reading : Type 0 where

@@ -81,3 +81,7 @@ shapeQuestions n v N = generatorCount n ∷ memory v ∷ wordLength v N ∷ []
 -- 8 and 9
 unfoldable pub generatorQuestions : ℕ → List ℕ → List Question
 generatorQuestions v gs = generatorRange v gs ∷ generatorEnds v gs ∷ []
+
+-- 4 to 7, of an order
+unfoldable pub orderNumbers : ℕ → ℕ → ℕ → ℕ → List Question
+orderNumbers v N m d = memory v ∷ wordLength v N ∷ checkDegree N m ∷ threshold d ∷ []

@@ -8,7 +8,7 @@ use Rattle.poly.specs.Poly.{bit, _⊕_, digitsThrough, horner, _⊗_, register,
 use Rattle.crc.specs.Check.{append}
 use Rattle.code.specs.Weight.{output, weight}
 use Rattle.code.specs.Trellis.{next, tapped, stepOutput, stepWeight, walkWeight, firstMeets}
-use Rattle.order.specs.Questions.{firstNo, from-to, inRange, hasBit, workSize}
+use Rattle.order.specs.Questions.{firstNo, from-to, inRange, hasBit, workSize, orderNumbers, generatorQuestions}
 use Rattle.order.specs.Order.{orderQuestions}
 use Rattle.events.specs.Events.{listed, eventsOfLength, eventsOfState, events, entry, noEvent, eventTable}
 use Rattle.paths.specs.Paths.{words, wordsOfWeight, weights, paths, plainCounts, halves, pathTable, pathRoom}
@@ -18,5 +18,5 @@ use Rattle.search.specs.Row.{cleared, allCleared, filled, searchQuestions, chos
 use Rattle.rows.specs.Rows.{lent, figuresOf, told, rows}
 
 pub rows-hold : map (λ line. told (line .0)) rows ≡ map (λ line. line .1) rows
-unfolding flatMap onesIn ones upFrom filter count all any padded bit _⊕_ digitsThrough horner _⊗_ register remainder append output weight next tapped stepOutput stepWeight walkWeight firstMeets firstNo from-to inRange hasBit workSize orderQuestions listed eventsOfLength eventsOfState events entry noEvent eventTable words wordsOfWeight weights paths plainCounts halves pathTable pathRoom passes undetectedCount undetectedCounts candidates fewer betters best choiceOf choice cleared allCleared filled searchQuestions chosen counted asked search lent figuresOf told rows
+unfolding flatMap onesIn ones upFrom filter count all any padded bit _⊕_ digitsThrough horner _⊗_ register remainder append output weight next tapped stepOutput stepWeight walkWeight firstMeets firstNo from-to inRange hasBit workSize orderNumbers generatorQuestions orderQuestions listed eventsOfLength eventsOfState events entry noEvent eventTable words wordsOfWeight weights paths plainCounts halves pathTable pathRoom passes undetectedCount undetectedCounts candidates fewer betters best choiceOf choice cleared allCleared filled searchQuestions chosen counted asked search lent figuresOf told rows
 rows-hold = refl

@@ -1,0 +1,52 @@
+-- Each field at its place.
+-- Assumes nothing.
+use Rattle.order.specs.Answers.{fieldsOf}
+use borrow.Author.Needs.{needs}
+use Rattle.order.proofs.record.fields.Statement.{statement}
+use Rattle.order.proofs.record.fields.Tie as tie
+
+byte-at-requires : tie.Need-byte-at-requires
+byte-at-requires c κs = search needs
+
+byte-at-requires-2 : tie.Need-byte-at-requires-2
+byte-at-requires-2 c κs = search needs
+
+byte-at-requires-3 : tie.Need-byte-at-requires-3
+byte-at-requires-3 c κs = search needs
+
+byte-at-requires-4 : tie.Need-byte-at-requires-4
+byte-at-requires-4 c κs = search needs
+
+byte-at-requires-5 : tie.Need-byte-at-requires-5
+byte-at-requires-5 c κs = search needs
+
+two-at-requires : tie.Need-two-at-requires
+two-at-requires c κs = search needs
+
+two-at-requires-2 : tie.Need-two-at-requires-2
+two-at-requires-2 c κs = search needs
+
+two-at-requires-3 : tie.Need-two-at-requires-3
+two-at-requires-3 c κs = search needs
+
+two-at-requires-4 : tie.Need-two-at-requires-4
+two-at-requires-4 c κs = search needs
+
+returns : tie.Need-returns
+unfolding fieldsOf
+returns c = λ i. record { n = c .before .before .before .before .before .before .before .before .byte-at .ensures .0 i; v = c .before .before .before .before .before .before .before .byte-at2 .ensures .0 i; bits = c .before .before .before .before .before .before .byte-at3 .ensures .0 i; m = c .before .before .before .before .before .byte-at4 .ensures .0 i; d = c .before .before .before .before .byte-at5 .ensures .0 i; g1 = c .before .before .before .two-at .ensures i; g2 = c .before .before .two-at2 .ensures i; g3 = c .before .two-at3 .ensures i; g4 = c .two-at4 .ensures i }
+
+pub fields-spec : {M : Type 1} → statement M
+fields-spec =
+    tie.close
+    (tie.spec
+    byte-at-requires
+    byte-at-requires-2
+    byte-at-requires-3
+    byte-at-requires-4
+    byte-at-requires-5
+    two-at-requires
+    two-at-requires-2
+    two-at-requires-3
+    two-at-requires-4
+    returns)

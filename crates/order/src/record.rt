@@ -1,0 +1,163 @@
+// The order record, read from any bytes.
+ghost use mathlib.Core.Path.{_≡_};
+ghost use mathlib.Core.List.{[], _∷_};
+ghost use Prim.Native.Nat.{_<_, _≤_};
+ghost use lib.ListN.{length, getD, take};
+ghost use Rattle.order.specs.Questions.{firstNo, orderNumbers, generatorQuestions};
+ghost use Rattle.order.specs.Order.{be16, lengthRight, versionRight, countRight, read, recordQuestions};
+ghost use Rattle.order.specs.Answers.{fieldsOf, readingOf};
+use super::questions::ask_generators;
+use super::questions::degree_fits;
+use super::questions::from_to;
+
+// An order as a record gives it: n generators, the first first, the others 0.
+#[repr(C)]
+pub struct OrderRecord {
+    pub n: u64,
+    pub v: u64,
+    pub bits: u64,
+    pub m: u64,
+    pub d: u64,
+    pub g1: u64,
+    pub g2: u64,
+    pub g3: u64,
+    pub g4: u64,
+}
+
+pub enum Reading {
+    Order(OrderRecord),
+    Refused(u64),
+}
+
+// The byte at i; 0 past the end.
+fn byte_at(bytes: &[u8], i: usize) -> u64
+    ensures { λ r. ⌜ (r ≡ getD (now (bytes .entry)) i 0) × (r < 256) ⌝ }
+{
+    if i < bytes.len() {
+        return bytes[i] as u64;
+    }
+    0
+}
+
+// The number in two bytes at i, the higher first.
+fn two_at(bytes: &[u8], i: usize) -> u64
+    requires { ⌜ i < 256 ⌝ }
+    ensures { λ r. ⌜ r ≡ be16 (now (bytes .entry)) i ⌝ }
+{
+    byte_at(bytes, i) * 256 + byte_at(bytes, i + 1)
+}
+
+// Question 1: are there 2 bytes, and do they say how many follow?
+fn length_right(bytes: &[u8]) -> bool
+    ensures { λ r. ⌜ r ≡ lengthRight (now (bytes .entry)) ⌝ }
+{
+    let size = bytes.len() as u64;
+    if size < 2 {
+        return false;
+    }
+    two_at(bytes, 0) == size - 2
+}
+
+// Question 2: is there a version byte, and is it 1?
+fn version_right(bytes: &[u8]) -> bool
+    ensures { λ r. ⌜ r ≡ versionRight (now (bytes .entry)) ⌝ }
+{
+    if bytes.len() < 3 {
+        return false;
+    }
+    byte_at(bytes, 2) == 1
+}
+
+// Question 3: is n there and from 2 to 4, and is the length 6 + 2n?
+fn count_right(bytes: &[u8]) -> bool
+    ensures { λ r. ⌜ r ≡ countRight (now (bytes .entry)) ⌝ }
+{
+    if bytes.len() < 4 {
+        return false;
+    }
+    let n = byte_at(bytes, 3);
+    if !from_to(2, 4, n) {
+        return false;
+    }
+    two_at(bytes, 0) == 6 + 2 * n
+}
+
+// Questions 1, 2 and 3 of a record: the number of the first that says no, or 0.
+fn ask_record(bytes: &[u8]) -> u64
+    ensures { λ r. ⌜ r ≡ firstNo (recordQuestions (now (bytes .entry))) ⌝ }
+{
+    if !length_right(bytes) {
+        return 1;
+    }
+    if !version_right(bytes) {
+        return 2;
+    }
+    if !count_right(bytes) {
+        return 3;
+    }
+    0
+}
+
+fn fields(bytes: &[u8]) -> OrderRecord
+    ensures { λ r. ⌜ r ≡ fieldsOf (now (bytes .entry)) ⌝ }
+{
+    OrderRecord {
+        n: byte_at(bytes, 3),
+        v: byte_at(bytes, 4),
+        bits: byte_at(bytes, 5),
+        m: byte_at(bytes, 6),
+        d: byte_at(bytes, 7),
+        g1: two_at(bytes, 8),
+        g2: two_at(bytes, 10),
+        g3: two_at(bytes, 12),
+        g4: two_at(bytes, 14),
+    }
+}
+
+// Questions 4 to 7: the number of the first that says no, or 0.
+pub fn ask_numbers(v: u64, bits: u64, m: u64, d: u64) -> u64
+    ensures { λ r. ⌜ r ≡ firstNo (orderNumbers v bits m d) ⌝ }
+{
+    if !from_to(1, 8, v) {
+        return 4;
+    }
+    if !from_to(v, 128, bits) {
+        return 5;
+    }
+    if !degree_fits(bits, m) {
+        return 6;
+    }
+    if !from_to(1, 64, d) {
+        return 7;
+    }
+    0
+}
+
+// Questions 8 and 9 of the first n of four generators.
+fn ask_four(v: u64, n: usize, g1: u64, g2: u64, g3: u64, g4: u64) -> u64
+    requires { ⌜ (v < 63) × (n ≤ 4) ⌝ }
+    ensures { λ r. ⌜ r ≡ firstNo (generatorQuestions v (take n (g1 ∷ g2 ∷ g3 ∷ g4 ∷ []))) ⌝ }
+{
+    let all = [g1, g2, g3, g4];
+    ask_generators(v, &all[..n])
+}
+
+// The order that the bytes give, or the number of the first question that says no.
+pub fn read_order(bytes: &[u8]) -> Reading
+    ensures { λ r. ⌜ r ≡ readingOf (read (now (bytes .entry))) ⌝ }
+{
+    let outside = ask_record(bytes);
+    if outside != 0 {
+        return Reading::Refused(outside);
+    }
+    let o = fields(bytes);
+    let numbers = ask_numbers(o.v, o.bits, o.m, o.d);
+    if numbers != 0 {
+        return Reading::Refused(numbers);
+    }
+    let generators = ask_four(o.v, o.n as usize, o.g1, o.g2, o.g3, o.g4);
+    if generators != 0 {
+        return Reading::Refused(generators);
+    }
+    Reading::Order(o)
+}
