@@ -1,0 +1,75 @@
+-- The structs that hosts see are those of the answers that the library's enums stand for.
+-- Assumes nothing.
+use mathlib.Core.Path.{_≡_, refl, sym, ap, ap₂, _∙_, subst}
+use mathlib.Core.List.{List}
+use Prim.Native.Nat.{ℕ, _+_, _*_, _/_, _%_, _^_, _<_}
+use lib.ListN.{length}
+use lib.Pow.{high, low}
+use Rattle.order.specs.Order as Order
+use Rattle.order.specs.Answers.{recordOf, readingOf}
+use Rattle.crc.specs.Check as Check
+use Rattle.crc.specs.Answers.{appendedAs, strippedAs, testedAs}
+use Rattle.crc.specs.declared.Appended.{Appended}
+use Rattle.crc.specs.declared.Appended.the-variants as A
+use Rattle.crc.specs.declared.Stripped.{Stripped}
+use Rattle.crc.specs.declared.Stripped.the-variants as S
+use Rattle.crc.specs.declared.Tested.{Tested}
+use Rattle.crc.specs.declared.Tested.the-variants as T
+use Rattle.code.specs.Calls as Code
+use Rattle.code.specs.Answers.{weighedAs, encodedAs}
+use Rattle.code.specs.declared.Weighed.{Weighed}
+use Rattle.code.specs.declared.Weighed.the-variants as W
+use Rattle.code.specs.declared.Encoded.{Encoded}
+use Rattle.code.specs.declared.Encoded.the-variants as E
+use Rattle.dohvrin.specs.declared.Answer.{Answer}
+use Rattle.dohvrin.specs.declared.OrderAnswer.{OrderAnswer}
+use Rattle.dohvrin.specs.Answers.{refusal, number, halves, checkAnswer, codeAnswer, codeNumber, EncodedAs, orderAnswer}
+use Rattle.dohvrin.specs.Cases.{word, numbers, ofAppended, ofStripped, ofTested, ofWeighed, ofEncoded, ofRecord, noRecord, ofReading}
+
+-- a word's halves are those of its number
+word-halves : (l h : ℕ) → l < 2 ^ 64 → word l h ≡ halves (h * 2 ^ 64 + l)
+unfolding halves
+word-halves l h p = ap₂ word (sym (low h 64 p)) (sym (high h 64 p))
+
+pub append-answer : (a : Appended) (r : Answer) (x : Check.Answer) → r ≡ ofAppended a → r .low < 2 ^ 64 → appendedAs a ≡ x → r ≡ checkAnswer x
+unfolding checkAnswer refusal
+append-answer (A.Whole w) r x e p ex =
+    e ∙ word-halves (w .low) (w .high) (subst (λ (k : ℕ). k < 2 ^ 64) (ap (λ (q : Answer). q .low) e) p) ∙ ap checkAnswer ex
+append-answer (A.Refused k) r x e p ex = e ∙ ap checkAnswer ex
+
+pub strip-answer : (a : Stripped) (r : Answer) (x : Check.Answer) → r ≡ ofStripped a → r .low < 2 ^ 64 → strippedAs a ≡ x → r ≡ checkAnswer x
+unfolding checkAnswer refusal number
+strip-answer (S.Message w) r x e p ex =
+    e ∙ word-halves (w .low) (w .high) (subst (λ (k : ℕ). k < 2 ^ 64) (ap (λ (q : Answer). q .low) e) p) ∙ ap checkAnswer ex
+strip-answer (S.Damaged d) r x e p ex = e ∙ ap checkAnswer ex
+strip-answer (S.Refused k) r x e p ex = e ∙ ap checkAnswer ex
+
+pub test-answer : (a : Tested) (r : Answer) (x : Check.Answer) → r ≡ ofTested a → testedAs a ≡ x → r ≡ checkAnswer x
+unfolding checkAnswer refusal number
+test-answer T.Divisible r x e ex = e ∙ ap checkAnswer ex
+test-answer T.Indivisible r x e ex = e ∙ ap checkAnswer ex
+test-answer (T.Refused k) r x e ex = e ∙ ap checkAnswer ex
+
+pub weigh-answer : (a : Weighed) (r : Answer) (x : Code.Answer) → r ≡ ofWeighed a → weighedAs a ≡ x → r ≡ codeAnswer x
+unfolding codeAnswer refusal number
+weigh-answer (W.Weight w) r x e ex = e ∙ ap codeAnswer ex
+weigh-answer (W.Refused k) r x e ex = e ∙ ap codeAnswer ex
+
+encoded-number : (a : Encoded) → ofEncoded a ≡ codeNumber (encodedAs a)
+unfolding codeNumber
+encoded-number E.Done = refl
+encoded-number (E.Refused k) = refl
+
+pub encode-answer : (a : Encoded) (r v N : ℕ) (gs : List ℕ) (w u : ℕ) (before after : List ℕ) → w ≡ u → r ≡ ofEncoded a
+    → encodedAs a ≡ Code.encodeCall v N gs w (length before) → after ≡ Code.outputAfter (encodedAs a) N gs w before → EncodedAs r v N gs u before after
+encode-answer a r v N gs w u before after ew e ex eo =
+    let told : encodedAs a ≡ Code.encodeCall v N gs u (length before) = ex ∙ ap (λ (k : ℕ). Code.encodeCall v N gs k (length before)) ew in
+    record {
+      number = e ∙ encoded-number a ∙ ap codeNumber told;
+      output = eo ∙ ap₂ (λ (x : Code.Answer) (k : ℕ). Code.outputAfter x N gs k before) told ew;
+    }
+
+pub order-told : (x : Order.Reading) → ofReading (readingOf x) ≡ orderAnswer x
+unfolding readingOf orderAnswer ofRecord noRecord
+order-told (Order.order o) = refl
+order-told (Order.refused k) = refl

@@ -1,0 +1,56 @@
+-- The structs that hosts see, for each answer of document 01: the number of the refusal or 0, then the values.
+-- Assumes nothing.
+use mathlib.Core.Path.{_≡_}
+use mathlib.Core.List.{List}
+use Prim.Native.Nat.{ℕ, _/_, _%_, _^_}
+use lib.ListN.{length}
+use Rattle.order.specs.Order as Order
+use Rattle.order.specs.Answers.{recordOf}
+use Rattle.crc.specs.Check as Check
+use Rattle.code.specs.Calls as Code
+use Rattle.dohvrin.specs.declared.Answer.{Answer}
+use Rattle.dohvrin.specs.declared.OrderAnswer.{OrderAnswer}
+
+-- a refusal alone
+unfoldable pub refusal : ℕ → Answer
+refusal k = record { refusal = k; value = 0; low = 0; high = 0 }
+
+-- one number
+unfoldable pub number : ℕ → Answer
+number x = record { refusal = 0; value = x; low = 0; high = 0 }
+
+-- one word, the low half first
+unfoldable pub halves : ℕ → Answer
+halves u = record { refusal = 0; value = 0; low = u % 2 ^ 64; high = u / 2 ^ 64 }
+
+-- append, strip and test: a word or message in its halves; the nonzero remainder, or 1 for divisible and 0 for not, as the number
+unfoldable pub checkAnswer : Check.Answer → Answer
+checkAnswer (Check.word u) = halves u
+checkAnswer (Check.message f) = halves f
+checkAnswer (Check.damaged r) = number r
+checkAnswer Check.divisible = number 1
+checkAnswer Check.indivisible = number 0
+checkAnswer (Check.refused k) = refusal k
+
+-- the weight as the number
+unfoldable pub codeAnswer : Code.Answer → Answer
+codeAnswer (Code.weighs w) = number w
+codeAnswer Code.encoded = number 0
+codeAnswer (Code.refused k) = refusal k
+
+-- the encoder's number alone
+unfoldable pub codeNumber : Code.Answer → ℕ
+codeNumber (Code.weighs w) = 0
+codeNumber Code.encoded = 0
+codeNumber (Code.refused k) = k
+
+-- the encoder: its number, and the output that it leaves
+pub record EncodedAs (r v N : ℕ) (gs : List ℕ) (u : ℕ) (before after : List ℕ) : Type 0 where
+  pub number : r ≡ codeNumber (Code.encodeCall v N gs u (length before))
+  pub output : after ≡ Code.outputAfter (Code.encodeCall v N gs u (length before)) N gs u before
+
+unfoldable pub orderAnswer : Order.Reading → OrderAnswer
+orderAnswer (Order.order o) =
+    let r = recordOf o in
+    record { refusal = 0; n = r .n; v = r .v; bits = r .bits; m = r .m; d = r .d; g1 = r .g1; g2 = r .g2; g3 = r .g3; g4 = r .g4 }
+orderAnswer (Order.refused k) = record { refusal = k; n = 0; v = 0; bits = 0; m = 0; d = 0; g1 = 0; g2 = 0; g3 = 0; g4 = 0 }
