@@ -33,13 +33,13 @@ pub enum Tested {
 }
 
 // Questions 5, 6 and 11: the number of the first that says no, or 0.
-fn ask_polynomial(n: u64, m: u64, polynomial: u64) -> u64
-    ensures { λ r. ⌜ r ≡ firstNo (polynomialQuestions n m polynomial) ⌝ }
+fn ask_polynomial(bits: u64, m: u64, polynomial: u64) -> u64
+    ensures { λ r. ⌜ r ≡ firstNo (polynomialQuestions bits m polynomial) ⌝ }
 {
-    if !from_to(1, 128, n) {
+    if !from_to(1, 128, bits) {
         return 5;
     }
-    if !degree_fits(n, m) {
+    if !degree_fits(bits, m) {
         return 6;
     }
     if !is_check_polynomial(m, polynomial) {
@@ -48,52 +48,52 @@ fn ask_polynomial(n: u64, m: u64, polynomial: u64) -> u64
     0
 }
 
-// The word of a message of n - m bits.
-pub fn append(n: u64, m: u64, polynomial: u64, message: Word) -> Appended
-    ensures { λ r. ⌜ appendedAs r ≡ appendCall n m polynomial (number message) ⌝ }
+// The word of a message of bits - m bits.
+pub fn append(bits: u64, m: u64, polynomial: u64, message: Word) -> Appended
+    ensures { λ r. ⌜ appendedAs r ≡ appendCall bits m polynomial (number message) ⌝ }
 {
-    let refusal = ask_polynomial(n, m, polynomial);
+    let refusal = ask_polynomial(bits, m, polynomial);
     if refusal != 0 {
         return Appended::Refused(refusal);
     }
-    if !is_below(message, n - m) {
+    if !is_below(message, bits - m) {
         return Appended::Refused(12);
     }
     let shifted = shift_up(message, m);
-    let r = remainder_of(shifted, n, m, polynomial);
+    let r = remainder_of(shifted, bits, m, polynomial);
     Appended::Whole(xor(shifted, make(r, 0)))
 }
 
-// The message of a word of n bits, or its nonzero remainder.
-pub fn strip(n: u64, m: u64, polynomial: u64, word: Word) -> Stripped
-    ensures { λ r. ⌜ strippedAs r ≡ stripCall n m polynomial (number word) ⌝ }
+// The message of a word of `bits` bits, or its nonzero remainder.
+pub fn strip(bits: u64, m: u64, polynomial: u64, word: Word) -> Stripped
+    ensures { λ r. ⌜ strippedAs r ≡ stripCall bits m polynomial (number word) ⌝ }
 {
-    let refusal = ask_polynomial(n, m, polynomial);
+    let refusal = ask_polynomial(bits, m, polynomial);
     if refusal != 0 {
         return Stripped::Refused(refusal);
     }
-    if !is_below(word, n) {
+    if !is_below(word, bits) {
         return Stripped::Refused(12);
     }
-    let r = remainder_of(word, n, m, polynomial);
+    let r = remainder_of(word, bits, m, polynomial);
     if r != 0 {
         return Stripped::Damaged(r);
     }
     Stripped::Message(shift_down(word, m))
 }
 
-// Whether the polynomial divides a word of n bits.
-pub fn test(n: u64, m: u64, polynomial: u64, word: Word) -> Tested
-    ensures { λ r. ⌜ testedAs r ≡ testCall n m polynomial (number word) ⌝ }
+// Whether the polynomial divides a word of `bits` bits.
+pub fn test(bits: u64, m: u64, polynomial: u64, word: Word) -> Tested
+    ensures { λ r. ⌜ testedAs r ≡ testCall bits m polynomial (number word) ⌝ }
 {
-    let refusal = ask_polynomial(n, m, polynomial);
+    let refusal = ask_polynomial(bits, m, polynomial);
     if refusal != 0 {
         return Tested::Refused(refusal);
     }
-    if !is_below(word, n) {
+    if !is_below(word, bits) {
         return Tested::Refused(12);
     }
-    let r = remainder_of(word, n, m, polynomial);
+    let r = remainder_of(word, bits, m, polynomial);
     if r != 0 {
         return Tested::Indivisible;
     }

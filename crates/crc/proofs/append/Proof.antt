@@ -18,7 +18,7 @@ returns : tie.Need-returns
 returns c = append-refused-early _ _ _ _ _ (c .before .ask-polynomial .ensures) (c .if1 .taken)
 
 sub-is-below : tie.Need-sub-is-below
-sub-is-below c = let a = c .before .before .args in let g = accepted (a .n) (a .m) (a .polynomial) (sym (c .before .ask-polynomial .ensures) ∙ c .if1 .left) in le-of-lt (g .degree-below)
+sub-is-below c = let a = c .before .before .args in let g = accepted (a .bits) (a .m) (a .polynomial) (sym (c .before .ask-polynomial .ensures) ∙ c .if1 .left) in le-of-lt (g .degree-below)
 
 is-below-requires : tie.Need-is-below-requires
 is-below-requires c κs = search needs
@@ -27,10 +27,10 @@ returns-2 : tie.Need-returns-2
 returns-2 c = append-refused-late _ _ _ _ _ (c .before .before .before .ask-polynomial .ensures) (c .before .before .if1 .left) (sym (c .before .is-below .ensures) ∙ not-true _ (c .if2 .taken))
 
 shift-up-requires : tie.Need-shift-up-requires
-shift-up-requires c κs = let a = c .before .before .before .before .args in let g = accepted (a .n) (a .m) (a .polynomial) (sym (c .before .before .before .ask-polynomial .ensures) ∙ c .before .before .if1 .left) in (omega arith, omega arith, shifted-fits (a .n) (a .m) _ (g .at-most-128) (g .degree-below) (ltb-true _ _ (sym (c .before .is-below .ensures) ∙ not-false _ (c .if2 .left))))
+shift-up-requires c κs = let a = c .before .before .before .before .args in let g = accepted (a .bits) (a .m) (a .polynomial) (sym (c .before .before .before .ask-polynomial .ensures) ∙ c .before .before .if1 .left) in (omega arith, omega arith, shifted-fits (a .bits) (a .m) _ (g .at-most-128) (g .degree-below) (ltb-true _ _ (sym (c .before .is-below .ensures) ∙ not-false _ (c .if2 .left))))
 
 remainder-of-requires : tie.Need-remainder-of-requires
-remainder-of-requires c κs = let a = c .before .before .before .before .before .args in let g = accepted (a .n) (a .m) (a .polynomial) (sym (c .before .before .before .before .ask-polynomial .ensures) ∙ c .before .before .before .if1 .left) in (g .at-most-128, g .at-most-12, g .degree, subst⁻¹ (λ (x : ℕ). x < 2 ^ a .n) (c .shift-up .ensures) (shifted-lt (a .n) (a .m) _ (g .degree-below) (ltb-true _ _ (sym (c .before .before .is-below .ensures) ∙ not-false _ (c .before .if2 .left)))))
+remainder-of-requires c κs = let a = c .before .before .before .before .before .args in let g = accepted (a .bits) (a .m) (a .polynomial) (sym (c .before .before .before .before .ask-polynomial .ensures) ∙ c .before .before .before .if1 .left) in (g .at-most-128, g .at-most-12, g .degree, subst⁻¹ (λ (x : ℕ). x < 2 ^ a .bits) (c .shift-up .ensures) (shifted-lt (a .bits) (a .m) _ (g .degree-below) (ltb-true _ _ (sym (c .before .before .is-below .ensures) ∙ not-false _ (c .before .if2 .left)))))
 
 make-requires : tie.Need-make-requires
 make-requires c κs = search needs

@@ -23,13 +23,13 @@ returns-2 : tie.Need-returns-2
 returns-2 c = strip-refused-late _ _ _ _ _ (c .before .before .before .ask-polynomial .ensures) (c .before .before .if1 .left) (sym (c .before .is-below .ensures) ∙ not-true _ (c .if2 .taken))
 
 remainder-of-requires : tie.Need-remainder-of-requires
-remainder-of-requires c κs = let a = c .before .before .before .before .args in let g = accepted (a .n) (a .m) (a .polynomial) (sym (c .before .before .before .ask-polynomial .ensures) ∙ c .before .before .if1 .left) in (g .at-most-128, g .at-most-12, g .degree, ltb-true _ _ (sym (c .before .is-below .ensures) ∙ not-false _ (c .if2 .left)))
+remainder-of-requires c κs = let a = c .before .before .before .before .args in let g = accepted (a .bits) (a .m) (a .polynomial) (sym (c .before .before .before .ask-polynomial .ensures) ∙ c .before .before .if1 .left) in (g .at-most-128, g .at-most-12, g .degree, ltb-true _ _ (sym (c .before .is-below .ensures) ∙ not-false _ (c .if2 .left)))
 
 returns-3 : tie.Need-returns-3
 returns-3 c = sym (strip-nonzero _ _ _ _ (c .before .remainder-of .ensures) (c .if3 .taken)) ∙ strip-answered _ _ _ _ _ (c .before .before .before .before .before .ask-polynomial .ensures) (c .before .before .before .before .if1 .left) (sym (c .before .before .before .is-below .ensures) ∙ not-false _ (c .before .before .if2 .left))
 
 shift-down-requires : tie.Need-shift-down-requires
-shift-down-requires c κs = let a = c .before .before .before .before .before .before .args in let g = accepted (a .n) (a .m) (a .polynomial) (sym (c .before .before .before .before .before .ask-polynomial .ensures) ∙ c .before .before .before .before .if1 .left) in (omega arith, omega arith)
+shift-down-requires c κs = let a = c .before .before .before .before .before .before .args in let g = accepted (a .bits) (a .m) (a .polynomial) (sym (c .before .before .before .before .before .ask-polynomial .ensures) ∙ c .before .before .before .before .if1 .left) in (omega arith, omega arith)
 
 returns-4 : tie.Need-returns-4
 returns-4 c = ap message (c .shift-down .ensures) ∙ sym (strip-zero _ _ _ _ (c .before .before .remainder-of .ensures) (c .before .if3 .left)) ∙ strip-answered _ _ _ _ _ (c .before .before .before .before .before .before .ask-polynomial .ensures) (c .before .before .before .before .before .if1 .left) (sym (c .before .before .before .before .is-below .ensures) ∙ not-false _ (c .before .before .before .if2 .left))

@@ -21,7 +21,7 @@ returns-2 : tie.Need-returns-2
 returns-2 c = test-refused-late _ _ _ _ _ (c .before .before .before .ask-polynomial .ensures) (c .before .before .if1 .left) (sym (c .before .is-below .ensures) ∙ not-true _ (c .if2 .taken))
 
 remainder-of-requires : tie.Need-remainder-of-requires
-remainder-of-requires c κs = let a = c .before .before .before .before .args in let g = accepted (a .n) (a .m) (a .polynomial) (sym (c .before .before .before .ask-polynomial .ensures) ∙ c .before .before .if1 .left) in (g .at-most-128, g .at-most-12, g .degree, ltb-true _ _ (sym (c .before .is-below .ensures) ∙ not-false _ (c .if2 .left)))
+remainder-of-requires c κs = let a = c .before .before .before .before .args in let g = accepted (a .bits) (a .m) (a .polynomial) (sym (c .before .before .before .ask-polynomial .ensures) ∙ c .before .before .if1 .left) in (g .at-most-128, g .at-most-12, g .degree, ltb-true _ _ (sym (c .before .is-below .ensures) ∙ not-false _ (c .if2 .left)))
 
 returns-3 : tie.Need-returns-3
 returns-3 c = sym (test-nonzero _ _ _ _ (c .before .remainder-of .ensures) (c .if3 .taken)) ∙ test-answered _ _ _ _ _ (c .before .before .before .before .before .ask-polynomial .ensures) (c .before .before .before .before .if1 .left) (sym (c .before .before .before .is-below .ensures) ∙ not-false _ (c .before .before .if2 .left))
