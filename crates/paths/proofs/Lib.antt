@@ -1,3 +1,4 @@
+pub mod Parts
 pub mod Listed
 pub mod Chains
 pub mod Joined
