@@ -1,6 +1,6 @@
-use lib.ListN.{length-replicate}
 -- The invariant: the state before step t, and what the first t steps send at the front of a cleared output.
 -- Assumes nothing.
+use lib.ListN.{length-replicate}
 use mathlib.Core.Path.{_≡_, refl, sym, ap, _∙_, subst, subst⁻¹}
 use mathlib.Core.List.{map}
 use Prim.Native.Nat.{ℕ, _+_, _-_, _*_, _≤_, _<_, zero-le}

@@ -1,3 +1,4 @@
+-- The parity of a count of ones.
 -- Assumes nothing.
 use mathlib.Core.Path.{refl}
 use Rattle.code.specs.Trellis.{tapped}

@@ -1,3 +1,4 @@
+-- Both tests.
 -- Assumes nothing.
 use mathlib.Core.Path.{sym, _∙_}
 use Rattle.lists.proofs.Tests.{and-yes, and-no}

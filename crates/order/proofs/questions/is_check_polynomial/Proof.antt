@@ -1,3 +1,4 @@
+-- Both tests; no 64-bit number has a degree above 63.
 -- Assumes nothing.
 use Prim.Native.Nat.{ℕ}
 use lib.Dec.{eqb}

@@ -1,3 +1,4 @@
+-- Three tests, one after another.
 -- Assumes nothing.
 use borrow.Author.Tests.{not-true, not-false}
 use Rattle.order.proofs.Records.{count-none, count-outside, count-told}

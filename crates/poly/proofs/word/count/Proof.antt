@@ -1,10 +1,8 @@
+-- The ones of both halves.
 -- Assumes nothing.
-use borrow.Author.Needs.{needs}
 use native.Mathlib.Omega.{arith}
 use lib.Count.{ones-le}
-use Rattle.poly.specs.Poly.{_⊕_}
-use Rattle.poly.proofs.Sum.{⊕-block}
-use Rattle.poly.proofs.Halves.{ones-halves, less-same-high, less-other-high}
+use Rattle.poly.proofs.Halves.{ones-halves}
 use Rattle.poly.proofs.word.count.Statement.{statement}
 use Rattle.poly.proofs.word.count.Tie as tie
 

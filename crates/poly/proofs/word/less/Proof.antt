@@ -1,10 +1,7 @@
+-- The high halves decide, and where they are equal the low ones.
 -- Assumes nothing.
-use borrow.Author.Needs.{needs}
 use native.Mathlib.Omega.{arith}
-use lib.Count.{ones-le}
-use Rattle.poly.specs.Poly.{_⊕_}
-use Rattle.poly.proofs.Sum.{⊕-block}
-use Rattle.poly.proofs.Halves.{ones-halves, less-same-high, less-other-high}
+use Rattle.poly.proofs.Halves.{less-same-high, less-other-high}
 use Rattle.poly.proofs.word.less.Statement.{statement}
 use Rattle.poly.proofs.word.less.Tie as tie
 

@@ -1,11 +1,9 @@
+-- Half by half.
 -- Assumes nothing.
 use mathlib.Core.Path.{sym}
-use borrow.Author.Needs.{needs}
 use native.Mathlib.Omega.{arith}
-use lib.Count.{ones-le}
 use Rattle.poly.specs.Poly.{_⊕_}
 use Rattle.poly.proofs.Sum.{⊕-block}
-use Rattle.poly.proofs.Halves.{ones-halves, less-same-high, less-other-high}
 use Rattle.poly.proofs.word.xor.Statement.{statement}
 use Rattle.poly.proofs.word.xor.Tie as tie
 

@@ -1,6 +1,6 @@
-use Rattle.poly.proofs.Sum.{mod2-lt, digit-times-lt}
 -- The register's step, as the definition has it.
 -- Assumes nothing.
+use Rattle.poly.proofs.Sum.{mod2-lt, digit-times-lt}
 use native.Mathlib.Omega.{arith}
 use mathlib.Core.Path.{refl}
 use Rattle.poly.specs.Poly.{bit, _⊕_, register}
