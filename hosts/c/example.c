@@ -1,0 +1,131 @@
+/*
+  Reads order records, each argument one in hexadecimal, and takes a message
+  through the link of each: append, weigh, encode, damage, strip.
+  Without arguments it takes the three records below.
+*/
+#include <inttypes.h>
+#include <stdio.h>
+#include <stdlib.h>
+#include <string.h>
+
+#include "dohvrin.h"
+
+/* The layout that the library was compiled with. */
+_Static_assert(sizeof(struct dohvrin_answer) == 32, "four 64-bit numbers");
+_Static_assert(offsetof(struct dohvrin_answer, high) == 24, "without gaps");
+_Static_assert(sizeof(struct dohvrin_order) == 80, "ten 64-bit numbers");
+_Static_assert(offsetof(struct dohvrin_order, g4) == 72, "without gaps");
+
+enum { MOST_BYTES = 64, MOST_OUTPUT = 4 * 128 };
+
+static const char *const records[] = {
+    "000A01020104020600010003", /* n 2, v 1, N 4, m 2, d 6, generators 1, 3 */
+    "000A010203460612000B000F", /* n 2, v 3, N 70, m 6, d 18, generators 13, 17 octal */
+    "000A01020181020600010003", /* the first with N = 129 */
+};
+
+/* The bytes of a text of hexadecimal digits, two a byte; 0 where it is none. */
+static int read_hex(const char *text, uint8_t *bytes, size_t *size)
+{
+    size_t digits = strlen(text);
+
+    if (digits % 2 != 0 || digits / 2 > MOST_BYTES || strspn(text, "0123456789abcdefABCDEF") != digits)
+        return 0;
+    *size = digits / 2;
+    for (size_t i = 0; i < *size; i++) {
+        const char pair[3] = {text[2 * i], text[2 * i + 1], '\0'};
+        bytes[i] = (uint8_t)strtoul(pair, NULL, 16);
+    }
+    return 1;
+}
+
+static void print_word(const char *name, uint64_t low, uint64_t high)
+{
+    printf("  %-8s 0x%016" PRIx64 "%016" PRIx64 "\n", name, high, low);
+}
+
+/* Weight and codeword of a word under the order's code. */
+static void print_code(const struct dohvrin_order *order, uint64_t low, uint64_t high)
+{
+    const uint64_t generators[4] = {order->g1, order->g2, order->g3, order->g4};
+    size_t n = (size_t)order->n;
+    uint8_t output[MOST_OUTPUT];
+    struct dohvrin_answer weight = dohvrin_weigh(generators, n, order->v, order->bits, low, high);
+    uint64_t refusal = dohvrin_encode(generators, n, order->v, order->bits, low, high,
+                                      output, sizeof output);
+
+    if (weight.refusal != 0 || refusal != 0) {
+        printf("  refused: %" PRIu64 " %" PRIu64 "\n", weight.refusal, refusal);
+        return;
+    }
+    printf("  weight   %" PRIu64 "\n  codeword ", weight.value);
+    for (size_t i = 0; i < n * order->bits; i++)
+        putchar('0' + output[i]);
+    putchar('\n');
+}
+
+static void print_stripped(const struct dohvrin_order *order, uint64_t polynomial,
+                           uint64_t low, uint64_t high)
+{
+    struct dohvrin_answer a = dohvrin_strip(order->bits, order->m, polynomial, low, high);
+
+    if (a.refusal != 0)
+        printf("  refused: %" PRIu64 "\n", a.refusal);
+    else if (a.value != 0)
+        printf("  damaged, remainder 0x%" PRIx64 "\n", a.value);
+    else
+        print_word("message", a.low, a.high);
+}
+
+/* The all-ones message of the order's K bits under x^m + x + 1 (x^m + 1 for m = 1). */
+static void run_link(const struct dohvrin_order *order)
+{
+    uint64_t k = order->bits - order->m;
+    uint64_t low = k < 64 ? (UINT64_C(1) << k) - 1 : UINT64_MAX;
+    uint64_t high = k > 64 ? (UINT64_C(1) << (k - 64)) - 1 : 0;
+    uint64_t polynomial = UINT64_C(1) << order->m | (order->m == 1 ? 1 : 3);
+    struct dohvrin_answer word = dohvrin_append(order->bits, order->m, polynomial, low, high);
+
+    if (word.refusal != 0) {
+        printf("  refused: %" PRIu64 "\n", word.refusal);
+        return;
+    }
+    print_word("message", low, high);
+    print_word("word", word.low, word.high);
+    print_code(order, word.low, word.high);
+    print_stripped(order, polynomial, word.low, word.high);
+    print_stripped(order, polynomial, word.low ^ 2, word.high);
+}
+
+static int run_record(const char *text)
+{
+    uint8_t bytes[MOST_BYTES];
+    size_t size;
+    struct dohvrin_order order;
+
+    if (!read_hex(text, bytes, &size)) {
+        fprintf(stderr, "%s: up to %d bytes in hexadecimal are asked for\n", text, MOST_BYTES);
+        return 0;
+    }
+    order = dohvrin_read_order(bytes, size);
+    if (order.refusal != 0) {
+        printf("refused: %" PRIu64 "\n", order.refusal);
+        return 1;
+    }
+    printf("order: n %" PRIu64 ", v %" PRIu64 ", N %" PRIu64 ", m %" PRIu64 ", d %" PRIu64
+           ", generators %" PRIo64 " %" PRIo64 " %" PRIo64 " %" PRIo64 "\n",
+           order.n, order.v, order.bits, order.m, order.d, order.g1, order.g2, order.g3, order.g4);
+    run_link(&order);
+    return 1;
+}
+
+int main(int argc, char **argv)
+{
+    int right = 1;
+
+    for (int i = 1; i < argc; i++)
+        right = run_record(argv[i]) && right;
+    for (size_t i = 0; argc < 2 && i < sizeof records / sizeof records[0]; i++)
+        run_record(records[i]);
+    return right ? EXIT_SUCCESS : EXIT_FAILURE;
+}

@@ -1,0 +1,219 @@
+//! The weight of a word, and the encoder with its lent output.
+
+use crate::random::Random;
+use crate::tally::Tally;
+use crate::{number, size, word_answer};
+use dohvrin::raw::{self, Answer};
+use dso_ref::link::{self, Code};
+
+/// The bytes of an output before a call, and those around it.
+const FILL: u8 = 0xA5;
+const GUARD: u8 = 0x3C;
+const GUARDS: usize = 64;
+
+/// What both calls take: the first `count` generators; the others stand behind
+/// them in memory and must not matter.
+#[derive(Clone, Copy, Debug)]
+struct Input {
+    generators: [u64; 8],
+    count: usize,
+    v: u64,
+    bits: u64,
+    word: u128,
+}
+
+impl Input {
+    fn given(&self) -> &[u64] {
+        &self.generators[..self.count]
+    }
+
+    fn code(&self) -> Code<'_> {
+        Code {
+            memory: size(self.v),
+            length: size(self.bits),
+            generators: self.given(),
+        }
+    }
+}
+
+pub fn weigh(inputs: u64) -> Tally {
+    let mut random = Random::new(0x3E16);
+    let mut tally = Tally::new("weigh", &[3, 4, 5, 8, 9, 12]);
+    for _ in 0..inputs {
+        let i = draw(&mut random);
+        let plain = link::weight(i.code(), i.word)
+            .map(u64::from)
+            .map_err(number);
+        let expected = word_answer(plain, |value| Answer {
+            value,
+            ..Answer::default()
+        });
+        let (low, high) = dohvrin::halves(i.word);
+        let start = i.generators.as_ptr();
+        // SAFETY: `count` is at most the array's size.
+        let answer = unsafe { raw::dohvrin_weigh(start, i.count, i.v, i.bits, low, high) };
+        let safe = dohvrin::weigh(i.given(), i.v, i.bits, i.word).map_err(|no| no.0);
+        let same = answer == expected && safe == plain;
+        tally.count(expected.refusal, same, || {
+            format!("{i:?}: library {answer:?} {safe:?}, second tool {expected:?}")
+        });
+    }
+    tally
+}
+
+pub fn encode(inputs: u64) -> Tally {
+    let mut random = Random::new(0xE4C0DE);
+    let mut tally = Tally::new("encode", &[3, 4, 5, 8, 9, 10, 12]);
+    for _ in 0..inputs {
+        let i = draw(&mut random);
+        let room = draw_room(&mut random, &i);
+        let plain = link::encode(i.code(), i.word, room).map_err(number);
+        let refusal = plain.as_ref().err().copied().unwrap_or(0);
+        let expected = output_after(plain.ok(), room);
+        let before = 1 + random.index(GUARDS);
+        let (raw_refusal, raw_output) = encode_raw(&i, before, room);
+        let (safe_refusal, safe_output) = encode_safe(&i, before, room);
+        let expected = guarded(before, &expected);
+        let same = raw_refusal == refusal
+            && safe_refusal == refusal
+            && raw_output == expected
+            && safe_output == expected;
+        tally.count(refusal, same, || {
+            format!(
+                "{i:?} room {room}: library {raw_refusal} {raw_output:?}, \
+                 safe {safe_refusal} {safe_output:?}, second tool {refusal} {expected:?}"
+            )
+        });
+    }
+    tally
+}
+
+/// What a call must leave: the codeword and zeros, or the fill.
+fn output_after(codeword: Option<Vec<u8>>, room: usize) -> Vec<u8> {
+    match codeword {
+        Some(mut bytes) => {
+            bytes.resize(room, 0);
+            bytes
+        }
+        None => vec![FILL; room],
+    }
+}
+
+/// An output among guard bytes, `before` of them in front.
+fn guarded(before: usize, output: &[u8]) -> Vec<u8> {
+    let mut bytes = vec![GUARD; before];
+    bytes.extend_from_slice(output);
+    bytes.resize(before + output.len() + GUARDS, GUARD);
+    bytes
+}
+
+fn encode_raw(i: &Input, before: usize, room: usize) -> (u64, Vec<u8>) {
+    let mut bytes = guarded(before, &vec![FILL; room]);
+    let (low, high) = dohvrin::halves(i.word);
+    let start = i.generators.as_ptr();
+    // SAFETY: `before + room` is below the buffer's size, `count` at most the
+    // array's, and the buffer is none of the array.
+    let refusal = unsafe {
+        let output = bytes.as_mut_ptr().add(before);
+        raw::dohvrin_encode(start, i.count, i.v, i.bits, low, high, output, room)
+    };
+    (refusal, bytes)
+}
+
+fn encode_safe(i: &Input, before: usize, room: usize) -> (u64, Vec<u8>) {
+    let mut bytes = guarded(before, &vec![FILL; room]);
+    let output = &mut bytes[before..before + room];
+    let answer = dohvrin::encode(i.given(), i.v, i.bits, i.word, output);
+    (answer.err().map_or(0, |no| no.0), bytes)
+}
+
+/// None, one short, exact, longer, or any.
+fn draw_room(random: &mut Random, i: &Input) -> usize {
+    let exact = i.count * size(i.bits.min(200));
+    match random.within(0, 9) {
+        0 => 0,
+        1 => exact.saturating_sub(1),
+        2..=5 => exact,
+        6..=8 => exact + random.index(100),
+        _ => random.index(600),
+    }
+}
+
+/// Half of the inputs are right; of the others most have one thing wrong.
+fn draw(random: &mut Random) -> Input {
+    match random.within(0, 15) {
+        0..=7 => right(random),
+        8..=12 => damaged(random),
+        13 | 14 => wild(random),
+        _ => {
+            let mut i = right(random);
+            match random.within(0, 2) {
+                0 => i.v = random.huge(i.v),
+                1 => i.bits = random.huge(i.bits),
+                _ => {
+                    let g = &mut i.generators[random.index(i.count)];
+                    *g = random.huge(*g);
+                }
+            }
+            i
+        }
+    }
+}
+
+fn right(random: &mut Random) -> Input {
+    let v = random.within(1, 8);
+    let bits = random.length(v);
+    let count = 2 + random.index(3);
+    let mut generators = [0; 8];
+    for g in &mut generators {
+        *g = random.within(1, (2 << v) - 1);
+    }
+    generators[random.index(count)] |= 1 << v;
+    generators[random.index(count)] |= 1;
+    let word = random.word(bits);
+    Input {
+        generators,
+        count,
+        v,
+        bits,
+        word,
+    }
+}
+
+fn damaged(random: &mut Random) -> Input {
+    let mut i = right(random);
+    let one = random.index(i.count);
+    match random.within(0, 9) {
+        0 => i.count = size(random.pick(&[0, 1, 5, 6])),
+        1 => i.v = random.pick(&[0, 9, 10, 11, 12]),
+        2 => i.bits = random.within(0, i.v - 1),
+        3 => i.bits = random.within(129, 200),
+        4 => i.generators[one] = 0,
+        5 => i.generators[one] |= 2 << i.v,
+        6 => i.generators[one] |= 1 << random.within(i.v + 1, 63),
+        // No given generator has bit v, or none bit 0; those behind them may.
+        7 => i.generators[..i.count]
+            .iter_mut()
+            .for_each(|g| *g = *g & !(1 << i.v) | 1),
+        8 => i.generators[..i.count]
+            .iter_mut()
+            .for_each(|g| *g = *g & !1 | 1 << i.v),
+        _ => i.word = random.word_above(i.bits),
+    }
+    i
+}
+
+fn wild(random: &mut Random) -> Input {
+    let v = random.within(0, 12);
+    let mut generators = [0; 8];
+    for g in &mut generators {
+        *g = random.within(0, (2 << v) + 1);
+    }
+    Input {
+        generators,
+        count: random.index(7),
+        v,
+        bits: random.within(0, 200),
+        word: random.word(128),
+    }
+}
