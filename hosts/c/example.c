@@ -29,7 +29,8 @@ static int read_hex(const char *text, uint8_t *bytes, size_t *size)
 {
     size_t digits = strlen(text);
 
-    if (digits % 2 != 0 || digits / 2 > MOST_BYTES || strspn(text, "0123456789abcdefABCDEF") != digits)
+    if (digits % 2 != 0 || digits / 2 > MOST_BYTES
+        || strspn(text, "0123456789abcdefABCDEF") != digits)
         return 0;
     *size = digits / 2;
     for (size_t i = 0; i < *size; i++) {
