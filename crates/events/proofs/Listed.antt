@@ -31,13 +31,13 @@ abbrev pub Before : ErrorEvent → ErrorEvent → Type 0
 Before = ByThen (λ e. e .state) (ByThen (λ e. e .length) (By (λ e. e .input)))
 
 -- the walk of l steps from i with input number c, as an event
-abbrev eventOf : Order → ℕ → ℕ → ℕ → ErrorEvent
+abbrev pub eventOf : Order → ℕ → ℕ → ℕ → ErrorEvent
 eventOf o i l c = record { state = i; length = l; weight = walkWeight (o .generators) (o .v) l i c; input = c }
 
 module _ (o : Order) where
   -- ---- the members
 
-  of-eventsOfLength : (i l : ℕ) {e : ErrorEvent} → List·Memᴰ e (eventsOfLength o i l) → (c : ℕ) × (c < 2 ^ l) × T (listed o i l c) × (eventOf o i l c ≡ e)
+  pub of-eventsOfLength : (i l : ℕ) {e : ErrorEvent} → List·Memᴰ e (eventsOfLength o i l) → (c : ℕ) × (c < 2 ^ l) × T (listed o i l c) × (eventOf o i l c ≡ e)
   unfolding eventsOfLength
   of-eventsOfLength i l m =
       let h = Memᴰ·of-map (eventOf o i l) (filter (listed o i l) (upFrom 0 (2 ^ l))) m in
@@ -45,7 +45,7 @@ module _ (o : Order) where
       let b = upFrom-bounds 0 (2 ^ l) (k .0) in
       (h .0, omega arith, k .1, h .2)
 
-  in-eventsOfLength : (i l c : ℕ) → c < 2 ^ l → T (listed o i l c) → List·Memᴰ (eventOf o i l c) (eventsOfLength o i l)
+  pub in-eventsOfLength : (i l c : ℕ) → c < 2 ^ l → T (listed o i l c) → List·Memᴰ (eventOf o i l c) (eventsOfLength o i l)
   unfolding eventsOfLength
   in-eventsOfLength i l c h t =
       Memᴰ·map (eventOf o i l) (in-filter (listed o i l) (upFrom 0 (2 ^ l)) (in-upFrom 0 (2 ^ l) (omega arith) (omega arith)) t)
@@ -96,7 +96,7 @@ module _ (o : Order) where
 
   -- ---- the order
 
-  eventsOfLength-sorted : (i l : ℕ) → Sorted (By (λ (e : ErrorEvent). e .input)) (eventsOfLength o i l)
+  pub eventsOfLength-sorted : (i l : ℕ) → Sorted (By (λ (e : ErrorEvent). e .input)) (eventsOfLength o i l)
   unfolding eventsOfLength
   eventsOfLength-sorted i l =
       map-sorted _<_ (By (λ e. e .input)) (eventOf o i l) (λ c c′ h. h) (filter (listed o i l) (upFrom 0 (2 ^ l)))

@@ -1,1 +1,4 @@
 pub mod Events
+pub mod Tables
+pub mod Backward
+pub mod Calls
