@@ -3,13 +3,13 @@
 -- Assumes nothing.
 use Prim.Native.Nat.{ℕ, zero, suc, _+_, _-_, _≤_, _<_}
 use native.Mathlib.Omega.{arith}
-use mathlib.Core.Path.{_≡_, refl, sym, ap, ap₂, _∙_, subst}
+use mathlib.Core.Path.{_≡_, refl, sym, ap, _∙_, subst}
 use mathlib.Core.Logic.{_⊎_, inl, inr, ⊎-elim}
 use mathlib.Core.Bool.{Bool, true, false, not, cond}
 use mathlib.Core.List.{List, [], _∷_, _++_}
 use lib.Dec.{T, ltb, eqb, lt→ltb, ltb→lt, nltb→le, eqb→eq}
-use lib.ListN.{length, set, replicate, length-set, length-append, length-replicate, take, drop, drop-of-length-le}
-use lib.Seq.{sets, length-sets, sets-eq}
+use lib.ListN.{length, set, replicate, length-set, length-replicate, drop}
+use lib.Seq.{sets, sets-eq}
 use Rattle.lists.specs.Lists.{padded}
 use Rattle.lists.proofs.Choices.{cond-true, cond-false}
 use Rattle.lists.proofs.Tests.{passes-or-fails}

@@ -8,10 +8,9 @@ use native.Mathlib.Decide.{ℕ-discrete}
 use native.Mathlib.Omega.{arith}
 use mathlib.Core.Path.{_≡_, refl, sym, ap, ap₂, _∙_, subst}
 use mathlib.Core.Bool.{Bool, cond, _&&_}
-use mathlib.Core.Logic.{_⊎_, inl, inr, ⊎-elim, _↔_}
+use mathlib.Core.Logic.{_⊎_, ⊎-elim}
 use mathlib.Core.List.{List, [], _∷_, _++_, List·Memᴰ, List·Memᴰ·head, List·Memᴰ·not-nil, List·Memᴰ·cases-cons, List·Memᴰ·append-cases, Memᴰ·append-left, Memᴰ·append-right, Memᴰ·cast}
 use lib.Dec.{T, ltb, ltb→lt, lt→ltb}
-use lib.Pow.{pow-pos}
 use Rattle.lists.proofs.Tests.{T-and}
 use Rattle.lists.proofs.Choices.{of-guarded, in-first, guarded-sorted}
 use Rattle.lists.proofs.Sorted.{Sorted, append-sorted, sorted-known}
@@ -23,9 +22,9 @@ use Rattle.code.proofs.Walks.{walk-last}
 use Rattle.code.proofs.Meets.{Meets, of-firstMeets, in-firstMeets}
 use Rattle.order.specs.Order.{Order}
 use Rattle.events.specs.Events.{ErrorEvent, listed, eventsOfLength}
-use Rattle.events.proofs.Listed.{of-eventsOfLength, in-eventsOfLength, eventsOfLength-sorted, eventOf}
+use Rattle.events.proofs.Listed.{of-eventsOfLength, in-eventsOfLength, eventsOfLength-sorted}
 use Rattle.events.proofs.Halving.{twice-half, step-low, step-high, before-fits, before-is}
-use Rattle.events.proofs.Ways.{Way, Shorter, way-none, way-more, way-less, weight-more}
+use Rattle.events.proofs.Ways.{Way, way-none, way-more, way-less, weight-more}
 use Rattle.events.proofs.Earlier.{less-before}
 
 module _ (gs : List ℕ) (v i l : ℕ) (go : ℕ → ℕ → ℕ → Bool) where

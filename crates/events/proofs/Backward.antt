@@ -10,16 +10,15 @@ use mathlib.Core.List.{List, [], _∷_, _++_, map}
 use lib.Arith.{digits-div}
 use lib.Dec.{T, ltb, eqb}
 use lib.Pow.{pow-pos, pow-mono, pow-add}
-use lib.ListN.{getD}
 use Rattle.lists.proofs.Choices.{cond-cong-on}
 use Rattle.code.specs.Trellis.{stepWeight}
 use Rattle.order.specs.Order.{Order}
 use Rattle.events.specs.declared.Event.{Event}
-use Rattle.events.specs.Events.{ErrorEvent, entry, eventsOfLength}
-use Rattle.events.specs.Tables.{need, stepAt, lengthAt, thresholdAt, halfAt}
+use Rattle.events.specs.Events.{entry, eventsOfLength}
+use Rattle.events.specs.Tables.{need, stepAt, lengthAt, halfAt}
 use Rattle.events.specs.Backward.{goesOn, earlier, finished, foundIn, found, first}
 use Rattle.events.proofs.Halving.{twice-half, before-fits}
-use Rattle.events.proofs.Back.{back, Cuts, back-is}
+use Rattle.events.proofs.Back.{back, back-is}
 use Rattle.events.proofs.Rows.{Filled}
 use Rattle.events.proofs.Ready.{Ready, step-is, go, ready-cuts, states-few}
 

@@ -5,10 +5,10 @@ use Prim.Native.Nat.{ℕ, zero, suc, _+_, _-_, _*_, _/_, _%_, _^_, _≤_, _<_}
 use native.Mathlib.Nat.{mod-lt, div-lt-iff-lt-mul, div-add-mod', mod-eq-of-lt, suc-mul, mul-mod-left, mul-le-mul-right}
 use native.Mathlib.Decide.{ℕ-discrete, decLe}
 use native.Mathlib.Omega.{arith}
-use mathlib.Core.Path.{_≡_, refl, sym, ap, ap₂, _∙_, subst}
+use mathlib.Core.Path.{_≡_, refl, sym, ap, _∙_, subst}
 use mathlib.Core.Logic.{_≢_}
-use mathlib.Core.Bool.{Bool, true, false, not, cond}
-use mathlib.Core.List.{List, [], _∷_, _++_, map}
+use mathlib.Core.Bool.{not}
+use mathlib.Core.List.{List, _++_, map}
 use lib.Arith.{digits-div}
 use lib.Dec.{T, leb, leb→le, le→leb, not-T}
 use lib.Pow.{pow-mono}
@@ -21,7 +21,7 @@ use Rattle.events.specs.declared.Event.{Event}
 use Rattle.events.specs.Events.{entry, events, noEvent, eventTable}
 use Rattle.events.specs.Tables.{lengthAt, prepared, turned}
 use Rattle.events.specs.Backward.{found, Node, Tables, appends, first}
-use Rattle.events.specs.Calls.{Answer, collected, refused, orderOf, collectQuestions, Outcome, listedOr13, unlessRefused, collectCall}
+use Rattle.events.specs.Calls.{collected, refused, orderOf, collectQuestions, listedOr13, unlessRefused, collectCall}
 use Rattle.events.proofs.Asked.{Accepted}
 use Rattle.events.proofs.Rows.{Filled}
 use Rattle.events.proofs.Ready.{Ready, ready-tables}

@@ -2,19 +2,18 @@
 -- that stores outside the weights and constants leave sums small.
 -- Assumes nothing.
 use Prim.Native.Nat.{ℕ, zero, suc, _+_, _-_, _*_, _/_, _%_, _^_, _≤_, _<_, min}
-use native.Mathlib.Nat.{pow-suc, mul-comm, pow-le-pow-right}
-use native.Mathlib.Numerals.{add-one}
+use native.Mathlib.Nat.{pow-suc, pow-le-pow-right}
 use native.Mathlib.Decide.{ℕ-discrete}
 use native.Mathlib.Omega.{arith}
 use mathlib.Core.Path.{_≡_, refl, sym, ap, ap₂, _∙_, subst}
 use mathlib.Core.Bool.{Bool, true, false, not, cond}
-use mathlib.Core.Logic.{_⊎_, inl, inr, ⊎-elim}
-use mathlib.Core.List.{List, [], _∷_}
+use mathlib.Core.Logic.{_⊎_, inl, ⊎-elim}
+use mathlib.Core.List.{List}
 use lib.Bits.{bitAnd, and-lt}
 use lib.Count.{ones, ones-le}
 use lib.Dec.{T, leb, eqb, lit<, leb→le, le→leb, not-T}
 use lib.ListN.{length, getD, set, drop, length-set, drop-of-length-le}
-use lib.Seq.{getD-set-other, getD-set-same}
+use lib.Seq.{getD-set-other}
 use Rattle.lists.proofs.Choices.{cond-true, cond-false, eqb-passes, eqb-fails}
 use Rattle.lists.proofs.Scan.{drop-next}
 use Rattle.poly.proofs.Shifts.{shl-one}

@@ -1,21 +1,19 @@
 -- Laws of the nodes: what the tests come to in each case, that sums stay small one step back, and what the events met from a node are.
 -- Assumes nothing.
-use Prim.Native.Nat.{ℕ, zero, suc, _+_, _-_, _*_, _/_, _%_, _^_, _≤_, _<_}
+use Prim.Native.Nat.{ℕ, zero, suc, _+_, _*_, _/_, _%_, _^_, _≤_, _<_}
 use native.Mathlib.Nat.{mul-le-mul-right}
-use native.Mathlib.Decide.{ℕ-discrete}
 use native.Mathlib.Omega.{arith}
-use mathlib.Core.Path.{_≡_, refl, sym, ap, _∙_, subst}
+use mathlib.Core.Path.{_≡_, sym, ap, _∙_}
 use mathlib.Core.Logic.{_≢_}
 use mathlib.Core.Bool.{Bool, true, false, not, cond, _||_}
-use mathlib.Core.List.{List, [], _∷_, _++_}
-use lib.Dec.{T, ltb, eqb, lt→ltb, ltb→lt, eqb→eq, not-T, lit<}
-use lib.ListN.{length, getD, set, length-set}
+use mathlib.Core.List.{List}
+use lib.Dec.{T, ltb, eqb, lt→ltb, ltb→lt, not-T, lit<}
+use lib.ListN.{length, getD}
 use Rattle.lists.proofs.Choices.{cond-true, cond-false, eqb-passes, eqb-fails}
 use Rattle.lists.proofs.Tests.{true-of-T, false-of-T-not}
-use Rattle.poly.proofs.Shifts.{push-low-fits, push-high-fits}
 use Rattle.events.specs.declared.Event.{Event}
-use Rattle.events.specs.Tables.{need, stepAt, lengthAt, thresholdAt, halfAt}
-use Rattle.events.specs.Backward.{goesOn, earlier, finished, foundIn, found, Node, Tables, append, appends, decided, first}
+use Rattle.events.specs.Tables.{need, lengthAt, thresholdAt, halfAt}
+use Rattle.events.specs.Backward.{goesOn, earlier, Node, Tables, decided, first}
 use Rattle.events.proofs.Filling.{step-small, need-small}
 
 pub ltb-fails : (m n : ℕ) → n ≤ m → T (not (ltb m n))

@@ -5,22 +5,22 @@ use Prim.Native.Nat.{ℕ, zero, suc, _+_, _-_, _*_, _/_, _%_, _^_, _≤_, _<_, m
 use native.Mathlib.Decide.{ℕ-discrete, decLe}
 use native.Mathlib.Omega.{arith}
 use mathlib.Core.Path.{_≡_, refl, sym, ap, ap₂, _∙_, subst}
-use mathlib.Core.Logic.{_≢_, _⊎_, inl, inr, ⊎-elim}
-use mathlib.Core.Bool.{Bool, true, false, cond, _||_}
+use mathlib.Core.Logic.{inl, inr, ⊎-elim}
+use mathlib.Core.Bool.{Bool, _||_}
 use mathlib.Core.List.{List, [], _∷_}
-use lib.Dec.{T, ltb, eqb, leb, ltb→lt, lt→ltb, eqb→eq, eqb-refl}
+use lib.Dec.{T, ltb, eqb, ltb→lt, lt→ltb, eqb→eq, eqb-refl}
 use lib.Pow.{pow-mono}
-use lib.ListN.{length, getD, set}
+use lib.ListN.{length, getD}
 use Rattle.lists.proofs.Tests.{T-or}
 use Rattle.code.specs.Trellis.{next, tapped, stepOutput, stepWeight, walk, walkWeight}
 use Rattle.code.proofs.States.{next-lt}
 use Rattle.code.proofs.Walks.{walk-last}
 use Rattle.poly.specs.Poly.{bit}
-use Rattle.events.specs.Tables.{need, stepAt, lengthAt, thresholdAt, halfAt, through, leastTo}
+use Rattle.events.specs.Tables.{need, stepAt, thresholdAt, halfAt, through, leastTo}
 use Rattle.events.specs.Backward.{Tables}
 use Rattle.events.proofs.Filling.{least-off-start, least-at-start, least-below, least-above}
 use Rattle.events.proofs.Halving.{twice-half, before-is}
-use Rattle.events.proofs.Ways.{Way, Shorter, way-less, weight-more}
+use Rattle.events.proofs.Ways.{Way, way-less, weight-more}
 use Rattle.events.proofs.Rows.{Filled}
 use Rattle.events.proofs.Back.{Cuts}
 

@@ -1,7 +1,7 @@
 -- What each walk over events says of one: its machine value, that it is typed, and what it owns, of nothing.
 -- Its fields are numbers of the machine: so are those of the nodes one step back and of the event of a node.
 -- Assumes nothing.
-use mathlib.Core.Path.{_≡_, refl}
+use mathlib.Core.Path.{refl}
 use mathlib.Core.List.{List, [], _∷_}
 use Prim.Native.Nat.{ℕ, _+_, _≤_, _<_, _^_, _%_}
 use native.Mathlib.Omega.{arith}

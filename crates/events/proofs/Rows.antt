@@ -1,9 +1,9 @@
 -- What the rows of least weights hold once they are filled: each entry is what `leastTo` finds from the row before it (`rows-filled`), since a row is
 -- stored after the row that it is found from, and nothing is stored there later.
 -- Assumes nothing.
-use Prim.Native.Nat.{ℕ, zero, suc, _+_, _-_, _*_, _/_, _%_, _^_, _≤_, _<_, min}
+use Prim.Native.Nat.{ℕ, zero, suc, _+_, _*_, _/_, _%_, _^_, _≤_, _<_, min}
 use native.Mathlib.Nat.{div-one, div-div-eq-div-mul}
-use native.Mathlib.Decide.{ℕ-discrete, decLt}
+use native.Mathlib.Decide.{ℕ-discrete}
 use native.Mathlib.Omega.{arith}
 use mathlib.Core.Path.{_≡_, refl, sym, ap, ap₂, _∙_, subst}
 use mathlib.Core.Logic.{_≢_, _⊎_, inl, inr, ⊎-elim}
@@ -13,7 +13,7 @@ use lib.Dec.{leb}
 use lib.Pow.{pow-add}
 use lib.ListN.{length, getD, set, length-set}
 use lib.Seq.{getD-set-other, getD-set-same}
-use Rattle.events.specs.Tables.{need, stepAt, halfAt, through, leastTo, packed, rowFrom, rowsFrom}
+use Rattle.events.specs.Tables.{need, halfAt, through, leastTo, packed, rowFrom, rowsFrom}
 use Rattle.events.proofs.Filling.{leastTo-small, length-rowFrom}
 
 -- ---- what `leastTo` reads: the rows before t, the weights and the constant 5122

@@ -2,12 +2,12 @@
 -- of all events (`all-turns`).
 -- Assumes nothing.
 use Prim.Native.Nat.{ℕ, zero, suc, _+_, _-_, _*_, _/_, _%_, _^_, _≤_, _<_}
-use native.Mathlib.Nat.{mod-lt, add-comm, mul-comm, suc-mul, mod-eq-of-lt, div-lt-iff-lt-mul}
+use native.Mathlib.Nat.{add-comm, suc-mul}
 use native.Mathlib.Decide.{ℕ-discrete}
 use native.Mathlib.Omega.{arith}
 use mathlib.Core.Path.{_≡_, refl, sym, ap, ap₂, _∙_, subst}
 use mathlib.Core.Logic.{_≢_, _⊎_, inl, inr, ⊎-elim}
-use mathlib.Core.List.{List, [], _∷_, _++_, map, flatMap, append-assoc}
+use mathlib.Core.List.{List, [], _∷_, _++_, map, flatMap}
 use lib.Arith.{digits-div, digits-mod}
 use lib.ListN.{length, getD, set, length-set}
 use lib.Seq.{getD-set-other, getD-set-same}
@@ -16,8 +16,8 @@ use Rattle.lists.proofs.Blocks.{flatMap-append}
 use Rattle.code.specs.Trellis.{stepWeight}
 use Rattle.order.specs.Order.{Order}
 use Rattle.events.specs.declared.Event.{Event}
-use Rattle.events.specs.Events.{ErrorEvent, entry, eventsOfLength, eventsOfState, events}
-use Rattle.events.specs.Tables.{need, lengthAt, halfAt, leastTo, rowsFrom, weightsFrom, prepared, turned}
+use Rattle.events.specs.Events.{entry, eventsOfLength, eventsOfState, events}
+use Rattle.events.specs.Tables.{lengthAt, halfAt, rowsFrom, weightsFrom, prepared, turned}
 use Rattle.events.proofs.Filling.{length-rowsFrom, length-weightsFrom, turned-first, turned-later}
 use Rattle.events.proofs.Rows.{Agree, Filled, need-cong, leastTo-cong, rows-agree, rows-elsewhere, rows-filled}
 use Rattle.events.proofs.Ready.{Ready, half-at-most}

@@ -4,10 +4,9 @@
 -- Assumes nothing.
 use Prim.Native.Nat.{ℕ, zero, suc, _+_, _-_, _*_, _/_, _%_, _^_, _≤_, _<_}
 use mathlib.Core.Bool.{Bool, cond, _||_}
-use mathlib.Core.List.{List, [], _∷_, _++_, flatMap}
+use mathlib.Core.List.{List, [], _∷_, _++_}
 use lib.Dec.{ltb, eqb}
 use lib.ListN.{length, getD, set}
-use Rattle.lists.specs.Lists.{upFrom}
 use Rattle.events.specs.declared.Event.{Event}
 use Rattle.events.specs.Tables.{need, stepAt, lengthAt, thresholdAt, halfAt}
 

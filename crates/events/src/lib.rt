@@ -12,7 +12,7 @@ use order::questions::ask_generators;
 use order::questions::ask_shape;
 use order::questions::from_to;
 
-pub mod tables;
+mod tables;
 
 use tables::clear_words;
 use tables::need_at;

@@ -25,27 +25,23 @@ use types.Kit.{Given, Item, ‵, _⊛_, ⋆, anyQ, atRet, runs, Sq, _$_, _∵_, 
 use types.Part.{agg}
 use types.Run.{Below, look, init, store, forget, stop, from as from′, lit, unit-lit, of-opd, bin, and-then, no-more, assigns-last, first, blocks, loops, again, returns, params1, pass1, pass0, exec}
 use sound.WpLaws.{fmOf, WpFn-mono}
-use denote.Exit.{yes}
 use denote.RattleType.{owns}
-use denote.Plain.{uint-vals, uint-tells}
 use denote.Ref.{RefT}
 use denote.Slice.{sliceVal, MutSlice, Room, slice-vals, mut-slice-tells}
 use denote.Signature.{plain}
-use denote.Builtin.{usize}
 use denote.Struct.Laws as LL
 use denote.Triple.Entry.{Vals, onEntry}
 use denote.Triple.Spec.{Meets, tripleOf}
 use denote.Triple.Statement.{Triple}
 use denote.Triple.Table.{entered, cited}
-use denote.Triple.Walked.{says, Stays, stay-slice, stay-none, walkOf, Walks, ends-at, walked, goes-slice, goes-none, walk-meets}
+use denote.Triple.Walked.{says, Stays, stay-slice, walkOf, Walks, ends-at, walked, goes-slice, walk-meets}
 use Rattle.events.specs.declared.Event.{Event}
-use Rattle.events.specs.Events.{noEvent}
 use Rattle.events.proofs.Event as T
 use Rattle.events.proofs.Event.Laws as T′
 use Rattle.events.proofs.Records.{val, Fits, typed}
 use Rattle.events.proofs.Cleared.{zeros, zeros-are, cleared-turn, cleared-over, cleared-all}
 use Rattle.events.proofs.Walk.{Blocks, envOf, cells, begins, leaves, var, part-of, relends, makes, whiles}
-use Rattle.events.proofs.Hold.{ref, num, nil, _also_, no-more as none-else, Mut, opened, shut}
+use Rattle.events.proofs.Hold.{ref, nil, no-more as none-else, Mut, opened, shut}
 use Rattle.events.proofs.Calls.{Put, puts}
 use Rattle.events.proofs.put_event.Symbol as put-event-def
 use Rattle.events.proofs.put_event.Symbol.{name as #events·put-event}

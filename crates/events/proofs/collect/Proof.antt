@@ -2,10 +2,10 @@
 -- the table as the second. It returns early with all as it was; or it clears, prepares, takes its turns (`Collecting.antt`'s `Standing` before each),
 -- and answers. For `descend` the work area is lent as a shared slice.
 -- Assumes nothing.
-use mathlib.Core.Path.{_≡_, refl, sym, _∙_, ap, subst}
+use mathlib.Core.Path.{_≡_, refl, _∙_, ap}
 use mathlib.Core.Option.{none, some as just}
 use mathlib.Core.WellFounded.{WellFounded, InvImage·wf}
-use Prim.Native.Nat.{ℕ, suc, _+_, _-_, _*_, _<_, _≤_, _^_}
+use Prim.Native.Nat.{ℕ, suc, _+_, _-_, _<_, _^_}
 use native.Mathlib.Nat.{lt-suc-self}
 use native.Mathlib.Omega.{arith}
 use mathlib.Core.Bool.{Bool, true, false, not}
@@ -58,7 +58,6 @@ use Rattle.events.proofs.Collected as TA
 use Rattle.events.proofs.Collected.Laws as TA′
 use Rattle.events.proofs.Records.{Fits as FitsEvent, typed as typed-event, first-fits, past-fits}
 use Rattle.events.proofs.Asked.{Accepted, accepted, why-small}
-use Rattle.events.proofs.Turns.{length-prepared}
 use Rattle.events.proofs.Collecting.{words, last, words-few, last-fits, some-length, Standing, standing-first, tables-before, next-work, next-table, work-turned, tables-turned, length-short, node-first, standing-next, standing-last, answer-refused, answer-13, answer-listed}
 use Rattle.events.proofs.Walk.{Blocks, envOf, cells, begins, leaves, var, part-of, relends, makes, tests, whiles}
 use Rattle.events.proofs.Hold.{Free, ref, Mut, Shr, num, _also_, no-more as none-else, shared, unshared, plain-call, plain-ended, plain-free}

@@ -1,7 +1,6 @@
 -- The first node, or the weight so far and the least weight.
 -- Assumes nothing.
 use borrow.Author.Needs.{needs}
-use native.Mathlib.Omega.{arith}
 use Rattle.events.proofs.Nodes.{goes-root, goes-below, sum-fits}
 use Rattle.events.proofs.goes_on.Statement.{statement}
 use Rattle.events.proofs.goes_on.Tie as tie

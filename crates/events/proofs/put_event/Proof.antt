@@ -1,6 +1,6 @@
 -- `events::put_event` meets its contract: a walk of its MIR, by hand. The borrow is opened, element i is taken out of the row and stored to whole, and the borrow is closed at the list with the entry in it.
 -- Assumes nothing.
-use mathlib.Core.Path.{_≡_, refl, sym, ap, subst}
+use mathlib.Core.Path.{refl, sym, ap, subst}
 use Prim.Native.Nat.{ℕ, _<_, _^_, _*_}
 use native.Mathlib.Omega.{arith}
 use mathlib.Core.List.{List, [], _∷_}

@@ -1,3 +1,5 @@
+-- The invariant: the first i words are zero, and the others are as they were.
+-- Assumes nothing.
 use mathlib.Core.Path.{_≡_, refl, _∙_, ap, subst}
 use mathlib.Core.List.{List, _++_}
 use Prim.Native.Nat.{ℕ, _-_, _≤_, _<_}
@@ -8,7 +10,6 @@ use Rattle.events.proofs.Fill.{fill-more, fill-length, fill-all}
 use Rattle.events.proofs.tables.clear_words.Statement.{statement}
 use Rattle.events.proofs.tables.clear_words.Tie as tie
 
--- i numbers are cleared, and the rest are as they were
 abbrev Inv-loop : tie.InvT-loop
 Inv-loop work₀ i₀ work i = (i ≤ length work₀) × (work ≡ replicate i 0 ++ drop i work₀)
 

@@ -1,11 +1,9 @@
 -- The invariant: what is left to store, stored from here, gives the whole, and the sums are still small.
 -- Assumes nothing.
-use borrow.Author.Needs.{needs}
 use native.Mathlib.Omega.{arith}
-use mathlib.Core.Path.{_≡_, refl, ap, sym, _∙_}
-use Prim.Native.Nat.{ℕ, _-_, _≤_}
+use mathlib.Core.Path.{_≡_, refl, _∙_}
+use Prim.Native.Nat.{_-_, _≤_}
 use mathlib.Core.Logic.{inl}
-use mathlib.Core.List.{List}
 use lib.ListN.{length, length-set}
 use Rattle.events.specs.Tables.{rowFrom}
 use Rattle.events.specs.Backward.{Tables}

@@ -1,12 +1,10 @@
 -- The invariant: the rows left, filled from here, give the whole, and the sums are still small.
 -- Assumes nothing.
-use borrow.Author.Needs.{needs}
 use native.Mathlib.Omega.{arith}
 use mathlib.Core.Path.{_≡_, refl, ap, sym, _∙_, subst}
-use Prim.Native.Nat.{ℕ, _-_, _≤_}
-use mathlib.Core.List.{List}
+use Prim.Native.Nat.{_-_, _≤_}
 use lib.ListN.{length}
-use Rattle.events.specs.Tables.{rowFrom, rowsFrom}
+use Rattle.events.specs.Tables.{rowsFrom}
 use Rattle.events.specs.Backward.{Tables}
 use Rattle.events.proofs.Filling.{rows-begin, rows-again, rows-end, length-rowFrom, tables-rowFrom}
 use Rattle.events.proofs.tables.fill_rows.Statement.{statement}

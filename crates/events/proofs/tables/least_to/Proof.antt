@@ -1,9 +1,6 @@
 -- At the start, below i, or the lesser of the two ways.
 -- Assumes nothing.
 use borrow.Author.Needs.{needs}
-use native.Mathlib.Omega.{arith}
-use mathlib.Core.Path.{_≡_, ap, ap₂, _∙_}
-use Prim.Native.Nat.{ℕ, min}
 use Rattle.events.proofs.Filling.{least-at-start, least-off-start, least-below, least-found}
 use Rattle.events.proofs.tables.least_to.Statement.{statement}
 use Rattle.events.proofs.tables.least_to.Tie as tie

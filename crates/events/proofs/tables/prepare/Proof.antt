@@ -2,7 +2,7 @@
 -- Assumes nothing.
 use borrow.Author.Needs.{needs}
 use native.Mathlib.Omega.{arith}
-use mathlib.Core.Path.{_≡_, ap, _∙_}
+use mathlib.Core.Path.{ap, _∙_}
 use lib.ListN.{length, length-set}
 use Rattle.events.proofs.Filling.{prepared-is, length-weightsFrom}
 use Rattle.events.proofs.tables.prepare.Statement.{statement}

@@ -1,9 +1,8 @@
 -- The invariant: the sum and what the generators left add is the whole.
 -- Assumes nothing.
-use borrow.Author.Needs.{needs}
 use native.Mathlib.Nat.{zero-add}
 use native.Mathlib.Omega.{arith}
-use mathlib.Core.Path.{_≡_, refl}
+use mathlib.Core.Path.{_≡_}
 use Prim.Native.Nat.{_+_, _-_, _/_, _%_, _≤_}
 use lib.ListN.{length, drop, getD}
 use Rattle.code.specs.Trellis.{stepWeight}

@@ -5,7 +5,7 @@ use native.Mathlib.Omega.{arith}
 use mathlib.Core.Path.{ap}
 use Prim.Native.Nat.{ℕ, _+_, _*_}
 use lib.ListN.{getD}
-use Rattle.events.specs.Tables.{need, through}
+use Rattle.events.specs.Tables.{through}
 use Rattle.events.proofs.Filling.{step-small, need-small}
 use Rattle.events.proofs.tables.through.Statement.{statement}
 use Rattle.events.proofs.tables.through.Tie as tie

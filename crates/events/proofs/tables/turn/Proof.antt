@@ -2,10 +2,10 @@
 -- Assumes nothing.
 use borrow.Author.Needs.{needs}
 use native.Mathlib.Omega.{arith}
-use mathlib.Core.Path.{_≡_, refl, ap, sym, _∙_}
-use Prim.Native.Nat.{ℕ, _+_, _%_, _<_}
+use mathlib.Core.Path.{refl, ap, _∙_}
+use Prim.Native.Nat.{_%_, _<_}
 use mathlib.Core.Logic.{inr}
-use lib.ListN.{length, set, length-set}
+use lib.ListN.{length, length-set}
 use native.Mathlib.Nat.{mod-lt}
 use Rattle.events.proofs.Filling.{tables-set, turned-first, turned-later, length-rowsFrom}
 use Rattle.events.proofs.tables.turn.Statement.{statement}
