@@ -1,5 +1,5 @@
 -- A word whose last bit meets its start, by computation: what it weighs round the seam, and the state that it begins with. A slip in the
--- definitions shows here first.
+-- definitions shows here.
 -- Assumes nothing.
 use mathlib.Core.Path.{_≡_, refl}
 use mathlib.Core.List.{[], _∷_}

@@ -1,4 +1,4 @@
--- Small products and remainders, by computation: a slip in the definitions shows here first.
+-- Small products and remainders, by computation: a slip in the definitions shows here.
 -- Assumes nothing.
 use mathlib.Core.Path.{_≡_, refl}
 use Rattle.poly.specs.Poly.{bit, _⊕_, digitsThrough, horner, _⊗_, register, remainder}
