@@ -1,3 +1,4 @@
+pub mod Samples
 pub mod States
 pub mod Walks
 pub mod Steps

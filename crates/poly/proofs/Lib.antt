@@ -1,3 +1,4 @@
+pub mod Samples
 pub mod Sum
 pub mod Bits
 pub mod Horner

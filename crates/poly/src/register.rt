@@ -7,15 +7,15 @@ use super::word::Word;
 use super::word::bit_at;
 
 // Division by a polynomial of degree at most 12: the polynomial, and the remainder so far.
-pub struct Register {
-    pub degree: u64,
-    pub polynomial: u64,
-    pub value: u64,
+struct Register {
+    degree: u64,
+    polynomial: u64,
+    value: u64,
 }
 
 impl Register {
     // One bit more, the highest first.
-    pub fn take(self, b: u64) -> Register
+    fn take(self, b: u64) -> Register
         requires { ⌜ (self .degree < 64) × (self .value < 2 ^ 32) × (self .polynomial < 2 ^ 32) × (b < 2) ⌝ }
         ensures { λ r. ⌜ (r .degree ≡ self .degree) × (r .polynomial ≡ self .polynomial) × (r .value ≡ register (self .degree) (self .polynomial) (self .value) b) ⌝ }
     {
