@@ -16,6 +16,13 @@
   The code is tail-biting: the output of generator g is u times g modulo
   x^N+1, and the weight of u is the number of ones in all n outputs.
 
+  A state is the last v inputs, the latest as bit 0: the input b leads from the
+  state s to (2s + b) mod 2^v, and the step weighs as many as the generators
+  put out ones in it. An event of the state i is a walk of 1 to N steps from i
+  back to i whose states in between are all greater than i. Its input number
+  has the first input as bit 0. The zero loop at the state 0 is an event.
+  A path is a word, not zero, of weight below the threshold d (1 to 64).
+
   A check polynomial has degree m (1 to 12, below N) and constant term 1. It
   turns a message of K = N - m bits into a word of N bits: the message stands
   in the upper K bits, its remainder in the lower m.
@@ -48,37 +55,51 @@
   Every call answers every input. It asks the questions that concern what it
   takes, in the order of their numbers, and the first no is the refusal; 0
   says that there was none. A refused call has no other result: the rest of
-  its answer is 0, and an output that was lent to it is as it was.
+  its answer is 0, and what was lent to it is as it was; after 13 and 14, it
+  is 0.
 
       no.  question                                                 asked by
        1   Are there 2 bytes, and does the length in them equal
            the number of bytes after them?                          read_order
        2   Is there a version byte, and is it 1?                    read_order
        3   Are there 2 to 4 generators? (In a record: is n there    weigh encode
-           and from 2 to 4, and is the length 6 + 2n?)              read_order
-       4   Is v from 1 to 8?                                        weigh encode
+           and from 2 to 4, and is the length 6 + 2n?)              collect list
                                                                     read_order
-       5   Is N from v (from 1 where a call takes no v) to 128?     all
+       4   Is v from 1 to 8?                                        weigh encode
+                                                                    collect list
+                                                                    read_order
+       5   Is N from v (from 1 where a call takes no v) to 128?     all but part
        6   Is m from 1 to 12 and below N?                           append strip
                                                                     test read_order
-       7   Is d from 1 to 64?                                       read_order
+       7   Is d from 1 to 64?                                       collect list
+                                                                    read_order
        8   Is every generator nonzero and below 2^(v+1)?            weigh encode
+                                                                    collect list
                                                                     read_order
        9   Has some generator bit v, and some generator (the same   weigh encode
-           one or another) bit 0?                                   read_order
+           one or another) bit 0?                                   collect list
+                                                                    read_order
       10   Has the output at least n times N bytes?                 encode
+           Has the work area at least 8,192 numbers?                collect list
+           Have the counts at least d entries?                      list
+           Is there a count of the weight, and has the table the
+           paths of all weights up to it?                           part
       11   Has the polynomial degree m and constant term 1?         append strip
                                                                     test
-      12   Is the word below 2^N, the message below 2^K?            all but
-                                                                    read_order
+      12   Is the word below 2^N, the message below 2^K?            append strip
+                                                                    test weigh
+                                                                    encode
+      13   Are there at most as many events as entries?             collect list
+      14   Are there at most as many paths as pairs of numbers?     list
 
   What the library counts on
   --------------------------
   Numbers may be anything. Pointers and counts are the caller's promise, as C
   has no means to check them: `count` elements can be read from the pointer
-  (written, for an output), it is aligned as its type asks, an output overlaps
-  nothing else that the call takes, and no other thread writes any of it
-  meanwhile. Where the count is 0 nothing is read or written.
+  (written, for an output, a table or a work area), it is aligned as its type
+  asks, what is written overlaps nothing else that the call takes, and no other
+  thread writes any of it meanwhile. Where the count is 0 nothing is read or
+  written.
 
   The library keeps nothing between calls, allocates nothing, and needs
   nothing of the C library but memset; calls may run at the same time in
@@ -113,6 +134,32 @@ struct dohvrin_order {
     uint64_t d;              /* the threshold on weights, 1 to 64 */
     uint64_t g1, g2, g3, g4; /* the generators, the first first; 0 past the n-th */
 };
+
+/* An entry of an event table. A table's entries after its events are all 0. */
+struct dohvrin_event {
+    uint64_t state;  /* the state that it leaves and comes back to */
+    uint64_t length; /* its steps, 1 to N: an entry with length 0 is no event */
+    uint64_t weight; /* its weight, below d */
+    uint64_t low;    /* its input number: bits 0 to 63 */
+    uint64_t high;   /* and bits 64 to 127 */
+};
+
+/* What a listing answers. */
+struct dohvrin_listing {
+    uint64_t refusal; /* the number of the question that said no, or 0 */
+    uint64_t events;  /* how many events are in the event table */
+    uint64_t paths;   /* how many paths are in the path table */
+};
+
+/* Where the paths of one weight stand in a path table. */
+struct dohvrin_part {
+    uint64_t refusal; /* the number of the question that said no, or 0 */
+    uint64_t start;   /* the place of their first number in the table */
+    uint64_t numbers; /* how many numbers they have: two a path */
+};
+
+/* The least numbers of a work area: 64 KiB. */
+#define DOHVRIN_WORK 8192
 
 /*
   Appends the remainder of a message f = high * 2^64 + low of K = bits - m bits
@@ -163,6 +210,58 @@ struct dohvrin_answer dohvrin_weigh(const uint64_t *generators, size_t count, ui
 */
 uint64_t dohvrin_encode(const uint64_t *generators, size_t count, uint64_t v, uint64_t bits,
                         uint64_t low, uint64_t high, uint8_t *output, size_t size);
+
+/*
+  Collects the events of weight below d of the code of `count` generators and
+  memory v, on walks of at most `bits` steps. Accepted: value is their number;
+  the table has them first, ordered by state, length and input number, its
+  entries after them are 0, and the work area is 0 throughout. Refusal 13,
+  there are more events than entries: table and work area are 0 throughout.
+  Other refusals: 3 (count), 4, 5, 7, 8, 9, 10 (size is below DOHVRIN_WORK);
+  then table and work area are as they were. What they held before the call
+  does not matter. That the pointers have `count` generators, `entries` events
+  and `size` numbers, and that table and work area overlap neither each other
+  nor the generators, cannot be checked.
+*/
+struct dohvrin_answer dohvrin_collect(const uint64_t *generators, size_t count, uint64_t v,
+                                      uint64_t bits, uint64_t d, struct dohvrin_event *table,
+                                      size_t entries, uint64_t *work, size_t size);
+
+/*
+  Lists the paths of weight below d of the code of `count` generators and
+  memory v, words of `bits` bits, with the events that they are joined of.
+  Accepted: the answer says how many there are of both. The path table has two
+  numbers a path, its low half first: the paths of the least weight come first,
+  and those of one weight in increasing order; the numbers after them are 0,
+  and so is the last one of an odd table. The counts say how many paths there
+  are of each weight from 0 to d - 1, and are 0 after that. The event table is
+  as dohvrin_collect leaves it, and the work area is 0 throughout. Refusals 13,
+  there are more events than entries, and 14, there are more paths than pairs
+  of numbers: all four tables are 0 throughout. Other refusals: 3 (count), 4,
+  5, 7, 8, 9, 10 (count_entries is below d, or work_numbers is below
+  DOHVRIN_WORK); then all four are as they were. What they held before the call
+  does not matter. That the pointers have `count` generators and as many
+  entries and numbers as is said, and that none of the tables overlaps another
+  or the generators, cannot be checked.
+*/
+struct dohvrin_listing dohvrin_list(const uint64_t *generators, size_t count, uint64_t v,
+                                    uint64_t bits, uint64_t d, struct dohvrin_event *events,
+                                    size_t event_entries, uint64_t *paths, size_t path_numbers,
+                                    uint64_t *counts, size_t count_entries, uint64_t *work,
+                                    size_t work_numbers);
+
+/*
+  Finds the paths of one weight in a path table, by the counts of its paths of
+  each weight from 0. Accepted: paths[start] is the first of their numbers, and
+  there are `numbers` of them, 0 where no path has that weight. The only
+  refusal is 10: count_entries is not above the weight, or the paths of all
+  weights up to it are more than the table has pairs of numbers. The counts may
+  be any: their sum may pass 64 bits, which is 10 as well. Table and counts are
+  only read; that the pointers have as many numbers as is said cannot be
+  checked.
+*/
+struct dohvrin_part dohvrin_part(const uint64_t *paths, size_t path_numbers,
+                                 const uint64_t *counts, size_t count_entries, uint64_t weight);
 
 /*
   Reads an order from a record of `size` bytes: the length of what follows it

@@ -1,7 +1,9 @@
 /*
   Reads order records, each argument one in hexadecimal, and takes a message
-  through the link of each: append, weigh, encode, damage, strip.
-  Without arguments it takes the three records below.
+  through the link of each: append, weigh, encode, damage, strip. Then it
+  collects the events of each and prints the first of them, and lists its
+  paths: how many there are of each weight, and the heaviest of them.
+  Without arguments it takes the four records below.
 */
 #include <inttypes.h>
 #include <stdio.h>
@@ -15,13 +17,26 @@ _Static_assert(sizeof(struct dohvrin_answer) == 32, "four 64-bit numbers");
 _Static_assert(offsetof(struct dohvrin_answer, high) == 24, "without gaps");
 _Static_assert(sizeof(struct dohvrin_order) == 80, "ten 64-bit numbers");
 _Static_assert(offsetof(struct dohvrin_order, g4) == 72, "without gaps");
+_Static_assert(sizeof(struct dohvrin_event) == 40, "five 64-bit numbers");
+_Static_assert(offsetof(struct dohvrin_event, high) == 32, "without gaps");
+_Static_assert(sizeof(struct dohvrin_listing) == 24, "three 64-bit numbers");
+_Static_assert(offsetof(struct dohvrin_listing, paths) == 16, "without gaps");
+_Static_assert(sizeof(struct dohvrin_part) == 24, "three 64-bit numbers");
+_Static_assert(offsetof(struct dohvrin_part, numbers) == 16, "without gaps");
 
-enum { MOST_BYTES = 64, MOST_OUTPUT = 4 * 128 };
+enum { MOST_BYTES = 64, MOST_OUTPUT = 4 * 128, ENTRIES = 16000, PATHS = 16000, SHOWN = 5 };
+
+/* Lent to the collections and listings, which need nothing of what they hold. */
+static struct dohvrin_event events[ENTRIES];
+static uint64_t paths[2 * PATHS];
+static uint64_t counts[64];
+static uint64_t work[DOHVRIN_WORK];
 
 static const char *const records[] = {
-    "000A01020104020600010003", /* n 2, v 1, N 4, m 2, d 6, generators 1, 3 */
+    "000A01020103020500010003", /* n 2, v 1, N 3, m 2, d 5, generators 1, 3 */
+    "000A01020104020700010003", /* n 2, v 1, N 4, m 2, d 7, generators 1, 3 */
     "000A010203460612000B000F", /* n 2, v 3, N 70, m 6, d 18, generators 13, 17 octal */
-    "000A01020181020600010003", /* the first with N = 129 */
+    "000A01020181020700010003", /* the second with N = 129 */
 };
 
 /* The bytes of a text of hexadecimal digits, two a byte; 0 where it is none. */
@@ -98,6 +113,55 @@ static void run_link(const struct dohvrin_order *order)
     print_stripped(order, polynomial, word.low ^ 2, word.high);
 }
 
+/* The number of the order's events, and the first SHOWN of them. */
+static void print_events(const struct dohvrin_order *order)
+{
+    const uint64_t generators[4] = {order->g1, order->g2, order->g3, order->g4};
+    struct dohvrin_answer a = dohvrin_collect(generators, (size_t)order->n, order->v, order->bits,
+                                              order->d, events, ENTRIES, work, DOHVRIN_WORK);
+
+    if (a.refusal != 0) {
+        printf("  refused: %" PRIu64 "\n", a.refusal);
+        return;
+    }
+    printf("  events   %" PRIu64 "\n", a.value);
+    for (size_t i = 0; i < a.value && i < SHOWN; i++) {
+        const struct dohvrin_event *e = &events[i];
+        printf("    state %" PRIu64 ", length %" PRIu64 ", weight %" PRIu64 ", input ",
+               e->state, e->length, e->weight);
+        printf("0x%016" PRIx64 "%016" PRIx64 "\n", e->high, e->low);
+    }
+}
+
+/* Plain counts, and the first SHOWN of the heaviest paths. 14: there are more than PATHS. */
+static void print_paths(const struct dohvrin_order *order)
+{
+    const uint64_t generators[4] = {order->g1, order->g2, order->g3, order->g4};
+    struct dohvrin_listing a = dohvrin_list(generators, (size_t)order->n, order->v, order->bits,
+                                            order->d, events, ENTRIES, paths, 2 * PATHS,
+                                            counts, 64, work, DOHVRIN_WORK);
+    uint64_t heaviest = 0;
+    struct dohvrin_part part;
+
+    if (a.refusal != 0) {
+        printf("  refused: %" PRIu64 "\n", a.refusal);
+        return;
+    }
+    printf("  paths    %" PRIu64 "\n  counts  ", a.paths);
+    for (uint64_t w = 0; w < order->d; w++) {
+        printf(" %" PRIu64, counts[w]);
+        if (counts[w] != 0)
+            heaviest = w;
+    }
+    putchar('\n');
+    part = dohvrin_part(paths, 2 * PATHS, counts, 64, heaviest);
+    for (size_t i = 0; part.refusal == 0 && i < part.numbers && i < 2 * SHOWN; i += 2) {
+        const uint64_t *path = &paths[part.start + i];
+        printf("    weight %" PRIu64 ", word 0x%016" PRIx64 "%016" PRIx64 "\n",
+               heaviest, path[1], path[0]);
+    }
+}
+
 static int run_record(const char *text)
 {
     uint8_t bytes[MOST_BYTES];
@@ -117,6 +181,8 @@ static int run_record(const char *text)
            ", generators %" PRIo64 " %" PRIo64 " %" PRIo64 " %" PRIo64 "\n",
            order.n, order.v, order.bits, order.m, order.d, order.g1, order.g2, order.g3, order.g4);
     run_link(&order);
+    print_events(&order);
+    print_paths(&order);
     return 1;
 }
 

@@ -21,10 +21,18 @@ use Rattle.code.specs.declared.Weighed.{Weighed}
 use Rattle.code.specs.declared.Weighed.the-variants as W
 use Rattle.code.specs.declared.Encoded.{Encoded}
 use Rattle.code.specs.declared.Encoded.the-variants as E
+use Rattle.events.specs.Calls as Events
+use Rattle.events.specs.declared.Event.{Event}
+use Rattle.events.specs.declared.Collected.{Collected}
+use Rattle.events.specs.declared.Collected.the-variants as C
+use Rattle.listing.specs.Calls as Listing
+use Rattle.listing.specs.declared.Listed.{Listed}
+use Rattle.listing.specs.declared.Listed.the-variants as L
 use Rattle.dohvrin.specs.declared.Answer.{Answer}
+use Rattle.dohvrin.specs.declared.ListAnswer.{ListAnswer}
 use Rattle.dohvrin.specs.declared.OrderAnswer.{OrderAnswer}
-use Rattle.dohvrin.specs.Answers.{refusal, number, halves, checkAnswer, codeAnswer, codeNumber, EncodedAs, orderAnswer}
-use Rattle.dohvrin.specs.Cases.{word, numbers, ofAppended, ofStripped, ofTested, ofWeighed, ofEncoded, ofRecord, noRecord, ofReading}
+use Rattle.dohvrin.specs.Answers.{refusal, number, halves, checkAnswer, codeAnswer, codeNumber, EncodedAs, eventAnswer, eventsAnswer, pathAnswer, pathsAnswer, orderAnswer}
+use Rattle.dohvrin.specs.Cases.{word, numbers, ofAppended, ofStripped, ofTested, ofWeighed, ofEncoded, ofCollected, ofListed, ofRecord, noRecord, ofReading}
 
 -- a word's halves are those of its number
 word-halves : (l h : ℕ) → l < 2 ^ 64 → word l h ≡ halves (h * 2 ^ 64 + l)
@@ -68,6 +76,16 @@ encode-answer a r v N gs w u before after ew e ex eo =
       number = e ∙ encoded-number a ∙ ap codeNumber told;
       output = eo ∙ ap₂ (λ (x : Code.Answer) (k : ℕ). Code.outputAfter x N gs k before) told ew;
     }
+
+pub collect-answer : (a : Collected) (r : Answer) (table : List Event) (work : List ℕ) (x : Events.Outcome) → r ≡ ofCollected a → (Events.collectedAs a, (table, work)) ≡ x → (r, (table, work)) ≡ eventsAnswer x
+unfolding eventsAnswer eventAnswer refusal number
+collect-answer (C.Events n) r table work x e ex = ap (λ (s : Answer). (s, (table, work))) e ∙ ap eventsAnswer ex
+collect-answer (C.Refused k) r table work x e ex = ap (λ (s : Answer). (s, (table, work))) e ∙ ap eventsAnswer ex
+
+pub list-answer : (a : Listed) (r : ListAnswer) (left : Listing.Tables) (x : Listing.Answer × Listing.Tables) → r ≡ ofListed a → (Listing.listedAs a, left) ≡ x → (r, left) ≡ pathsAnswer x
+unfolding pathsAnswer pathAnswer
+list-answer (L.Paths n k) r left x e ex = ap (λ (s : ListAnswer). (s, left)) e ∙ ap pathsAnswer ex
+list-answer (L.Refused k) r left x e ex = ap (λ (s : ListAnswer). (s, left)) e ∙ ap pathsAnswer ex
 
 pub order-told : (x : Order.Reading) → ofReading (readingOf x) ≡ orderAnswer x
 unfolding readingOf orderAnswer ofRecord noRecord

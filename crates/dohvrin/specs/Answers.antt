@@ -1,15 +1,22 @@
 -- The structs that hosts see, for each answer of document 01: the number of the refusal or 0, then the values.
 -- Assumes nothing.
 use mathlib.Core.Path.{_≡_}
+use mathlib.Core.Bool.{cond}
 use mathlib.Core.List.{List}
-use Prim.Native.Nat.{ℕ, _/_, _%_, _^_}
-use lib.ListN.{length}
+use Prim.Native.Nat.{ℕ, _*_, _/_, _%_, _^_}
+use lib.ListN.{length, getD}
 use Rattle.order.specs.Order as Order
 use Rattle.order.specs.Answers.{recordOf}
 use Rattle.crc.specs.Check as Check
 use Rattle.code.specs.Calls as Code
+use Rattle.events.specs.declared.Event.{Event}
+use Rattle.events.specs.Calls as Events
 use Rattle.dohvrin.specs.declared.Answer.{Answer}
+use Rattle.paths.specs.Part.{pathsBefore, partFits}
+use Rattle.listing.specs.Calls as Listing
+use Rattle.dohvrin.specs.declared.ListAnswer.{ListAnswer}
 use Rattle.dohvrin.specs.declared.OrderAnswer.{OrderAnswer}
+use Rattle.dohvrin.specs.declared.PartAnswer.{PartAnswer}
 
 -- a refusal alone
 unfoldable pub refusal : ℕ → Answer
@@ -48,6 +55,28 @@ codeNumber (Code.refused k) = k
 pub record EncodedAs (r v N : ℕ) (gs : List ℕ) (u : ℕ) (before after : List ℕ) : Type 0 where
   pub number : r ≡ codeNumber (Code.encodeCall v N gs u (length before))
   pub output : after ≡ Code.outputAfter (Code.encodeCall v N gs u (length before)) N gs u before
+
+-- the number of events as the number
+unfoldable pub eventAnswer : Events.Answer → Answer
+eventAnswer (Events.collected n) = number n
+eventAnswer (Events.refused k) = refusal k
+
+-- the collection: its answer, and the event table and the work area that it leaves
+unfoldable pub eventsAnswer : Events.Outcome → Answer × (List Event × List ℕ)
+eventsAnswer (a, left) = (eventAnswer a, left)
+
+-- the listing: how many events and paths, and the tables that it leaves
+unfoldable pub pathAnswer : Listing.Answer → ListAnswer
+pathAnswer (Listing.listed e p) = record { refusal = 0; events = e; paths = p }
+pathAnswer (Listing.refused k) = record { refusal = k; events = 0; paths = 0 }
+
+unfoldable pub pathsAnswer : Listing.Answer × Listing.Tables → ListAnswer × Listing.Tables
+pathsAnswer (a, left) = (pathAnswer a, left)
+
+-- the part of one weight: its first number in the caller's table, and how many numbers it has, two a path
+unfoldable pub partAnswer : List ℕ → ℕ → List ℕ → PartAnswer
+partAnswer counts w table =
+    cond (partFits counts w table) record { refusal = 0; start = 2 * pathsBefore counts w; numbers = 2 * getD counts w 0 } record { refusal = 10; start = 0; numbers = 0 }
 
 unfoldable pub orderAnswer : Order.Reading → OrderAnswer
 orderAnswer (Order.order o) =

@@ -14,7 +14,12 @@ use Rattle.code.specs.declared.Weighed.{Weighed}
 use Rattle.code.specs.declared.Weighed.the-variants as W
 use Rattle.code.specs.declared.Encoded.{Encoded}
 use Rattle.code.specs.declared.Encoded.the-variants as E
+use Rattle.events.specs.declared.Collected.{Collected}
+use Rattle.events.specs.declared.Collected.the-variants as C
 use Rattle.dohvrin.specs.declared.Answer.{Answer}
+use Rattle.listing.specs.declared.Listed.{Listed}
+use Rattle.listing.specs.declared.Listed.the-variants as L
+use Rattle.dohvrin.specs.declared.ListAnswer.{ListAnswer}
 use Rattle.dohvrin.specs.declared.OrderAnswer.{OrderAnswer}
 
 abbrev pub word : ℕ → ℕ → Answer
@@ -44,6 +49,14 @@ ofWeighed (W.Refused k) = numbers k 0
 abbrev pub ofEncoded : Encoded → ℕ
 ofEncoded E.Done = 0
 ofEncoded (E.Refused k) = k
+
+abbrev pub ofCollected : Collected → Answer
+ofCollected (C.Events n) = numbers 0 n
+ofCollected (C.Refused k) = numbers k 0
+
+abbrev pub ofListed : Listed → ListAnswer
+ofListed (L.Paths e p) = record { refusal = 0; events = e; paths = p }
+ofListed (L.Refused k) = record { refusal = k; events = 0; paths = 0 }
 
 unfoldable pub ofRecord : ℕ → OrderRecord → OrderAnswer
 ofRecord k o = record { refusal = k; n = o .n; v = o .v; bits = o .bits; m = o .m; d = o .d; g1 = o .g1; g2 = o .g2; g3 = o .g3; g4 = o .g4 }

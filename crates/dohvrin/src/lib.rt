@@ -4,8 +4,10 @@ ghost use Prim.Native.Nat.{_+_, _*_, _^_, _<_};
 ghost use Rattle.order.specs.Order.{read};
 ghost use Rattle.crc.specs.Check.{appendCall, stripCall, testCall};
 ghost use Rattle.code.specs.Calls.{weighCall};
-ghost use Rattle.dohvrin.specs.Answers.{checkAnswer, codeAnswer, EncodedAs, orderAnswer};
-ghost use Rattle.dohvrin.specs.Cases.{ofAppended, ofStripped, ofTested, ofWeighed, ofEncoded, ofRecord, ofReading};
+ghost use Rattle.events.specs.Calls.{collectCall};
+ghost use Rattle.listing.specs.Calls.{listCall};
+ghost use Rattle.dohvrin.specs.Answers.{checkAnswer, codeAnswer, EncodedAs, eventsAnswer, pathsAnswer, partAnswer, orderAnswer};
+ghost use Rattle.dohvrin.specs.Cases.{ofAppended, ofStripped, ofTested, ofWeighed, ofEncoded, ofCollected, ofListed, ofRecord, ofReading};
 use code::Encoded;
 use code::Weighed;
 use code::encode;
@@ -16,9 +18,16 @@ use crc::Tested;
 use crc::append;
 use crc::strip;
 use crc::test;
+use events::Collected;
+use events::Event;
+use events::collect;
+use listing::Listed;
+use listing::list;
 use order::record::OrderRecord;
 use order::record::Reading;
 use order::record::read_order;
+use paths::part;
+use paths::paths_before;
 use poly::word::make;
 
 // What a call answers: the number of the refusal or 0, one number, and one word in two halves. What a call does not use is 0.
@@ -43,6 +52,22 @@ pub struct OrderAnswer {
     pub g2: u64,
     pub g3: u64,
     pub g4: u64,
+}
+
+// How many events and paths were listed, or the number of the refusal and zeros.
+#[repr(C)]
+pub struct ListAnswer {
+    pub refusal: u64,
+    pub events: u64,
+    pub paths: u64,
+}
+
+// Where the words of one weight stand in the caller's path table: their first number, and how many numbers; or refusal 10 and zeros.
+#[repr(C)]
+pub struct PartAnswer {
+    pub refusal: u64,
+    pub start: u64,
+    pub numbers: u64,
 }
 
 // A word in its halves.
@@ -113,6 +138,45 @@ fn encoded(a: Encoded) -> u64
     match a {
         Encoded::Done => 0,
         Encoded::Refused(k) => k,
+    }
+}
+
+// What the collection answers hosts: the number of events, or the refusal.
+fn collected(a: Collected) -> Answer
+    ensures { λ r. ⌜ r ≡ ofCollected a ⌝ }
+{
+    match a {
+        Collected::Events(n) => number_answer(0, n),
+        Collected::Refused(k) => number_answer(k, 0),
+    }
+}
+
+fn list_answer(refusal: u64, events: u64, paths: u64) -> ListAnswer
+    ensures { λ r. ⌜ r ≡ record { refusal = refusal; events = events; paths = paths } ⌝ }
+{
+    ListAnswer {
+        refusal,
+        events,
+        paths,
+    }
+}
+
+fn listed(a: Listed) -> ListAnswer
+    ensures { λ r. ⌜ r ≡ ofListed a ⌝ }
+{
+    match a {
+        Listed::Paths(events, paths) => list_answer(0, events, paths),
+        Listed::Refused(k) => list_answer(k, 0, 0),
+    }
+}
+
+fn part_answer(refusal: u64, start: u64, numbers: u64) -> PartAnswer
+    ensures { λ r. ⌜ r ≡ record { refusal = refusal; start = start; numbers = numbers } ⌝ }
+{
+    PartAnswer {
+        refusal,
+        start,
+        numbers,
     }
 }
 
@@ -208,10 +272,56 @@ pub extern "C" fn dohvrin_encode(
     encoded(encode(generators, v, bits, make(low, high), output))
 }
 
+// The events of a code, into the lent table.
+#[no_mangle]
+pub extern "C" fn dohvrin_collect(
+    generators: &[u64],
+    v: u64,
+    bits: u64,
+    d: u64,
+    table: &mut [Event],
+    work: &mut [u64],
+) -> Answer
+    ensures { λ r. ⌜ (r, (now (table .exit), now (work .exit))) ≡ eventsAnswer (collectCall (now (generators .entry)) v bits d (now (table .entry)) (now (work .entry))) ⌝ }
+{
+    collected(collect(generators, v, bits, d, table, work))
+}
+
 // The order of a record.
 #[no_mangle]
 pub extern "C" fn dohvrin_read_order(bytes: &[u8]) -> OrderAnswer
     ensures { λ r. ⌜ r ≡ orderAnswer (read (now (bytes .entry))) ⌝ }
 {
     reading(read_order(bytes))
+}
+
+// The paths of a code, into the lent tables.
+#[no_mangle]
+pub extern "C" fn dohvrin_list(
+    generators: &[u64],
+    v: u64,
+    bits: u64,
+    d: u64,
+    events: &mut [Event],
+    paths: &mut [u64],
+    counts: &mut [u64],
+    work: &mut [u64],
+) -> ListAnswer
+    ensures { λ r. ⌜ (r, (now (events .exit), (now (paths .exit), (now (counts .exit), now (work .exit))))) ≡ pathsAnswer (listCall (now (generators .entry)) v bits d (now (events .entry), (now (paths .entry), (now (counts .entry), now (work .entry))))) ⌝ }
+{
+    listed(list(generators, v, bits, d, events, paths, counts, work))
+}
+
+// The words of one weight in a path table.
+#[no_mangle]
+pub extern "C" fn dohvrin_part(table: &[u64], counts: &[u64], w: u64) -> PartAnswer
+    ensures { λ r. ⌜ r ≡ partAnswer (now (counts .entry)) w (now (table .entry)) ⌝ }
+{
+    let mut refusal = 0;
+    let words = part(table, counts, w, &mut refusal);
+    if refusal != 0 {
+        return part_answer(10, 0, 0);
+    }
+    let before = paths_before(counts, w as usize, (table.len() / 2) as u64);
+    part_answer(0, 2 * before, words.len() as u64)
 }

@@ -5,17 +5,17 @@ use Prim.Native.Nat.{ℕ, zero, suc, _+_, _-_, _≤_, _<_}
 use native.Mathlib.Omega.{arith}
 use mathlib.Core.Path.{_≡_, refl, sym, ap, _∙_, subst}
 use mathlib.Core.Logic.{_⊎_, inl, inr, ⊎-elim}
-use mathlib.Core.Bool.{Bool, true, false, not, cond}
+use mathlib.Core.Bool.{Bool, true, false, not, cond, _&&_}
 use mathlib.Core.List.{List, [], _∷_, _++_}
 use lib.Dec.{T, ltb, eqb, lt→ltb, ltb→lt, nltb→le, eqb→eq}
 use lib.ListN.{length, set, replicate, length-set, length-replicate, drop}
 use lib.Seq.{sets, sets-eq}
 use Rattle.lists.specs.Lists.{padded}
 use Rattle.lists.proofs.Choices.{cond-true, cond-false}
-use Rattle.lists.proofs.Tests.{passes-or-fails}
+use Rattle.lists.proofs.Tests.{T-and, passes-or-fails}
 use Rattle.events.specs.declared.Event.{Event}
 use Rattle.events.specs.Backward.{goesOn, earlier, finished, foundIn, found, append, appends, decided}
-use Rattle.events.proofs.Nodes.{ltb-fails}
+use Rattle.events.proofs.Nodes.{ltb-fails, lastBefore}
 
 drop-replicate : (z : Event) (k n : ℕ) → drop k (replicate n z) ≡ replicate (n - k) z
 drop-replicate z zero n = ap (λ (x : ℕ). replicate x z) (all-left n)
@@ -111,6 +111,17 @@ not-end false true true n m = absurd (m refl)
 not-end false true false n m = tt
 not-end false false z n m = absurd (n refl)
 
+nothing-else : (b g z : Bool) → (choice b g z ≡ 1 → ⊥) → (choice b g z ≡ 2 → ⊥) → choice b g z ≡ 0
+nothing-else true g z n m = refl
+nothing-else false true true n m = absurd (n refl)
+nothing-else false true false n m = absurd (m refl)
+nothing-else false false z n m = refl
+
+not-both : (a b : Bool) → T (not (a && b)) → T b → T (not a)
+not-both true true t u = t
+not-both true false t u = absurd u
+not-both false b t u = tt
+
 found-cut : (t : ℕ) (work : List ℕ) (e : Event) → T (not (goesOn work e)) → foundIn t work e ≡ []
 unfolding foundIn
 found-cut zero work e g = cond-false (goesOn work e) (finished work e ∷ []) [] g
@@ -137,6 +148,10 @@ module _ (work : List ℕ) (l : List Event) (at n : ℕ) (e : Event) (same : len
       (λ g. appends-none (l, at) ∙ ap (λ (es : List Event). appends es (l, at)) (sym (found-cut (e .length) work e g)))
       (cut-cases (ltb n at) (goesOn work e) (eqb (e .length) 0) z)
 
+  pub node-ends : (decided work at n e ≡ 1 → ⊥) → (decided work at n e ≡ 2 → ⊥) → (l, at) ≡ appends (found work e) (l, at)
+  unfolding decided
+  node-ends o m = node-cut (nothing-else (ltb n at) (goesOn work e) (eqb (e .length) 0) o m)
+
   pub node-open : (decided work at n e ≡ 0 → ⊥) → at ≤ n
   unfolding decided
   node-open z = nltb→le n at (open-node (ltb n at) (goesOn work e) (eqb (e .length) 0) z .0)
@@ -162,6 +177,25 @@ module _ (work : List ℕ) (l : List Event) (at n : ℕ) (e : Event) (same : len
         let more : e .length ≡ suc (e .length - 1) = omega arith in
         appends-append (foundIn (e .length - 1) work (earlier work e 0)) (foundIn (e .length - 1) work (earlier work e 1)) (l, at)
         ∙ ap (λ (es : List Event). appends es (l, at)) (sym (ap (λ (t : ℕ). foundIn t work e) more ∙ found-more (e .length - 1) work e goes))
+
+    -- both nodes before go on, or at most one does
+    pub node-both : T (goesOn work (earlier work e 0) && goesOn work (earlier work e 1)) → appends (found work (lastBefore work e)) (appends (found work (earlier work e 0)) (l, at)) ≡ appends (found work e) (l, at)
+    node-both t =
+        let on : T (goesOn work (earlier work e 1)) = T-and (goesOn work (earlier work e 0)) (goesOn work (earlier work e 1)) .0 t .1 in
+        ap (λ (x : Event). appends (found work x) (appends (found work (earlier work e 0)) (l, at))) (cond-true (goesOn work (earlier work e 1)) (earlier work e 1) (earlier work e 0) on) ∙ node-more
+
+    pub node-one : T (not (goesOn work (earlier work e 0) && goesOn work (earlier work e 1))) → appends (found work (lastBefore work e)) (l, at) ≡ appends (found work e) (l, at)
+    node-one t = elim (passes-or-fails (goesOn work (earlier work e 1))) [
+      | inl on ↦
+          ap (λ (x : Event). appends (found work x) (l, at)) (cond-true (goesOn work (earlier work e 1)) (earlier work e 1) (earlier work e 0) on)
+          ∙ ap (appends (found work (earlier work e 1))) (none-of (earlier work e 0) (l, at) (not-both (goesOn work (earlier work e 0)) (goesOn work (earlier work e 1)) t on)) ∙ node-more
+      | inr cut ↦
+          ap (λ (x : Event). appends (found work x) (l, at)) (cond-false (goesOn work (earlier work e 1)) (earlier work e 1) (earlier work e 0) cut)
+          ∙ none-of (earlier work e 1) (appends (found work (earlier work e 0)) (l, at)) cut ∙ node-more
+    ]
+      where
+        none-of : (x : Event) (s : List Event × ℕ) → T (not (goesOn work x)) → s ≡ appends (found work x) s
+        none-of x s cut = appends-none s ∙ ap (λ (es : List Event). appends es s) (sym (found-cut (x .length) work x cut))
 
 -- ---- at the end
 

@@ -13,8 +13,10 @@ pub mod Turns
 pub mod Asked
 pub mod Nodes
 pub mod Appends
+pub mod Descent
 pub mod Walk
 pub mod Hold
+pub mod Loans
 pub mod Again
 pub mod Records
 pub mod Calls

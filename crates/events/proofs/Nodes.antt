@@ -3,9 +3,9 @@
 use Prim.Native.Nat.{ℕ, zero, suc, _+_, _*_, _/_, _%_, _^_, _≤_, _<_}
 use native.Mathlib.Nat.{mul-le-mul-right}
 use native.Mathlib.Omega.{arith}
-use mathlib.Core.Path.{_≡_, sym, ap, _∙_}
+use mathlib.Core.Path.{_≡_, refl, sym, ap, ap₂, _∙_}
 use mathlib.Core.Logic.{_≢_}
-use mathlib.Core.Bool.{Bool, true, false, not, cond, _||_}
+use mathlib.Core.Bool.{Bool, true, false, not, cond, _&&_, _||_}
 use mathlib.Core.List.{List}
 use lib.Dec.{T, ltb, eqb, lt→ltb, ltb→lt, not-T, lit<}
 use lib.ListN.{length, getD}
@@ -13,7 +13,7 @@ use Rattle.lists.proofs.Choices.{cond-true, cond-false, eqb-passes, eqb-fails}
 use Rattle.lists.proofs.Tests.{true-of-T, false-of-T-not}
 use Rattle.events.specs.declared.Event.{Event}
 use Rattle.events.specs.Tables.{need, lengthAt, thresholdAt, halfAt}
-use Rattle.events.specs.Backward.{goesOn, earlier, Node, Tables, decided, first}
+use Rattle.events.specs.Backward.{goesOn, earlier, Node, Tables, decided, waysOn, decidedLast, first}
 use Rattle.events.proofs.Filling.{step-small, need-small}
 
 pub ltb-fails : (m n : ℕ) → n ≤ m → T (not (ltb m n))
@@ -124,3 +124,117 @@ product-fits a b n e h g =
 pub earlier-shorter : (work : List ℕ) (e : Event) (top : ℕ) → 0 < e .length → earlier work e top .length < e .length
 unfolding earlier
 earlier-shorter work e top pos = omega arith
+
+-- ---- of two nodes, which go on, and the last that does
+
+abbrev ways : Bool → Bool → ℕ
+ways a b = cond a (cond b 3 1) (cond b 2 0)
+
+module _ (work : List ℕ) (x y : Event) where
+  pub ways-are : (a b : Bool) → goesOn work x ≡ a → goesOn work y ≡ b → ways a b ≡ waysOn work x y
+  unfolding waysOn
+  ways-are a b p q = sym (ap₂ ways p q)
+
+  pub ways-small : waysOn work x y < 2 ^ 64
+  unfolding waysOn
+  ways-small = small (goesOn work x) (goesOn work y)
+    where
+      small : (a b : Bool) → ways a b < 2 ^ 64
+      small true true = lit< tt
+      small true false = lit< tt
+      small false true = lit< tt
+      small false false = lit< tt
+
+  pub ways-both : waysOn work x y ≡ 3 → T (goesOn work x && goesOn work y)
+  unfolding waysOn
+  ways-both e = both (goesOn work x) (goesOn work y) e
+    where
+      both : (a b : Bool) → ways a b ≡ 3 → T (a && b)
+      both true true e = tt
+      both true false e = absurd (omega arith)
+      both false true e = absurd (omega arith)
+      both false false e = absurd (omega arith)
+
+  pub ways-one : (waysOn work x y ≡ 3 → ⊥) → T (not (goesOn work x && goesOn work y))
+  unfolding waysOn
+  ways-one n = one (goesOn work x) (goesOn work y) n
+    where
+      one : (a b : Bool) → (ways a b ≡ 3 → ⊥) → T (not (a && b))
+      one true true n = absurd (n refl)
+      one true false n = tt
+      one false b n = tt
+
+  pub ways-last : cond (ltb (waysOn work x y) 2) x y ≡ cond (goesOn work y) y x
+  unfolding waysOn
+  ways-last = chosen (goesOn work x) (goesOn work y)
+    where
+      chosen : (a b : Bool) → cond (ltb (ways a b) 2) x y ≡ cond b y x
+      chosen true true = refl
+      chosen true false = refl
+      chosen false true = refl
+      chosen false false = refl
+
+  -- none goes on where the last does not
+  ways-none : eqb (waysOn work x y) 0 ≡ not (goesOn work (cond (goesOn work y) y x))
+  unfolding waysOn
+  ways-none = none (goesOn work x) (goesOn work y) ∙ ap not (sym (of-chosen (goesOn work y)))
+    where
+      none : (a b : Bool) → eqb (ways a b) 0 ≡ not (cond b b a)
+      none true true = refl
+      none true false = refl
+      none false true = refl
+      none false false = refl
+
+      of-chosen : (b : Bool) → goesOn work (cond b y x) ≡ cond b (goesOn work y) (goesOn work x)
+      of-chosen true = refl
+      of-chosen false = refl
+
+  pub last-decided : (at room : ℕ) → decidedLast (waysOn work x y) at room (cond (goesOn work y) y x .length) ≡ decided work at room (cond (goesOn work y) y x)
+  unfolding decidedLast decided
+  last-decided at room =
+      let e : Event = cond (goesOn work y) y x in
+      ap (λ (b : Bool). cond b 0 (cond (ltb room at) 0 (cond (eqb (e .length) 0) 1 2))) ways-none ∙ in-order (goesOn work e) (ltb room at) (eqb (e .length) 0)
+    where
+      in-order : (g b z : Bool) → _≡_ {A = ℕ} (cond (not g) 0 (cond b 0 (cond z 1 2))) (cond b 0 (cond g (cond z 1 2) 0))
+      in-order true b z = refl
+      in-order false true z = refl
+      in-order false false z = refl
+
+-- the cases of `last_of`
+module _ (on : ℕ) (x y : Event) where
+  pub last-low : on < 2 → x ≡ cond (ltb on 2) x y
+  last-low h = sym (cond-true (ltb on 2) x y (lt→ltb on 2 h))
+
+  pub last-high : 2 ≤ on → y ≡ cond (ltb on 2) x y
+  last-high h = sym (cond-false (ltb on 2) x y (ltb-fails on 2 h))
+
+-- the cases of `decide_last`
+module _ (on at room left : ℕ) where
+  pub last-none : on ≡ 0 → 0 ≡ decidedLast on at room left
+  unfolding decidedLast
+  last-none h = sym (cond-true (eqb on 0) 0 _ (eqb-passes on 0 h))
+
+  some-on : on ≢ 0 → decidedLast on at room left ≡ cond (ltb room at) 0 (cond (eqb left 0) 1 2)
+  unfolding decidedLast
+  some-on h = cond-false (eqb on 0) 0 _ (eqb-fails on 0 h)
+
+  pub last-full : on ≢ 0 → room < at → 0 ≡ decidedLast on at room left
+  last-full h g = sym (some-on h ∙ cond-true (ltb room at) 0 _ (lt→ltb room at g))
+
+  pub last-end : on ≢ 0 → at ≤ room → left ≡ 0 → 1 ≡ decidedLast on at room left
+  last-end h g z = sym (some-on h ∙ cond-false (ltb room at) 0 _ (ltb-fails room at g) ∙ cond-true (eqb left 0) 1 2 (eqb-passes left 0 z))
+
+  pub last-more : on ≢ 0 → at ≤ room → left ≢ 0 → 2 ≡ decidedLast on at room left
+  last-more h g z = sym (some-on h ∙ cond-false (ltb room at) 0 _ (ltb-fails room at g) ∙ cond-false (eqb left 0) 1 2 (eqb-fails left 0 z))
+
+-- the last node before that goes on, or the one with the highest bit clear
+abbrev pub lastBefore : List ℕ → Event → Event
+lastBefore work e = cond (goesOn work (earlier work e 1)) (earlier work e 1) (earlier work e 0)
+
+-- what both nodes before have
+pub last-has : (work : List ℕ) (e : Event) (P : Event → Type 0) → P (earlier work e 0) → P (earlier work e 1) → P (lastBefore work e)
+last-has work e P low high = of-two (goesOn work (earlier work e 1))
+  where
+    of-two : (b : Bool) → P (cond b (earlier work e 1) (earlier work e 0))
+    of-two true = high
+    of-two false = low

@@ -61,6 +61,14 @@ appends (e ∷ es) s = appends es (append s e)
 unfoldable pub decided : List ℕ → ℕ → ℕ → Event → ℕ
 decided work at room e = cond (ltb room at) 0 (cond (goesOn work e) (cond (eqb (e .length) 0) 1 2) 0)
 
+-- of two nodes, which go on: 1 and 2 stand for them
+unfoldable pub waysOn : List ℕ → Event → Event → ℕ
+waysOn work low high = cond (goesOn work low) (cond (goesOn work high) 3 1) (cond (goesOn work high) 2 0)
+
+-- what is decided of the last that goes on, where so many steps are left
+unfoldable pub decidedLast : ℕ → ℕ → ℕ → ℕ → ℕ
+decidedLast on at room left = cond (eqb on 0) 0 (cond (ltb room at) 0 (cond (eqb left 0) 1 2))
+
 -- the first node of turn k: state k / N and length k % N + 1
 unfoldable pub first : ℕ → ℕ → Event
 first N k = record { state = k / N; length = k % N + 1; weight = 0; low = 0; high = 0 }

@@ -1,18 +1,20 @@
 // The error events of a code, collected into a lent table in their order: for each state and length a walk backwards from the state, cut where the
 // least weights of `tables` show that no event can come of it.
 ghost use mathlib.Core.Path.{_≡_};
+ghost use mathlib.Core.Bool.{cond};
 ghost use Prim.Native.Nat.{_+_, _*_, _/_, _^_, _<_, _≤_};
+ghost use lib.Dec.{ltb};
 ghost use lib.ListN.{length, set, replicate};
 ghost use Rattle.order.specs.Questions.{firstNo};
 ghost use Rattle.events.specs.Events.{noEvent};
 ghost use Rattle.events.specs.Tables.{lengthAt};
-ghost use Rattle.events.specs.Backward.{goesOn, earlier, finished, found, Node, Tables, appends, decided, first};
+ghost use Rattle.events.specs.Backward.{goesOn, earlier, finished, found, Node, Tables, appends, decided, waysOn, decidedLast, first};
 ghost use Rattle.events.specs.Calls.{collectQuestions, collectedAs, collectCall};
 use order::questions::ask_generators;
 use order::questions::ask_shape;
 use order::questions::from_to;
 
-mod tables;
+pub mod tables;
 
 use tables::clear_words;
 use tables::need_at;
@@ -81,6 +83,49 @@ fn step_back(work: &[u64], node: Event, top: u64) -> Event
     }
 }
 
+// Which of the two go on: 0 neither, 1 the low one, 2 the high one, 3 both.
+fn ways_on(work: &[u64], low: Event, high: Event) -> u64
+    requires { ⌜ Tables (now work) × (Node low × Node high) ⌝ }
+    ensures { λ r. ⌜ r ≡ waysOn (now (work .entry)) low high ⌝ }
+{
+    if goes_on(work, low) {
+        if goes_on(work, high) {
+            return 3;
+        }
+        return 1;
+    }
+    if goes_on(work, high) {
+        return 2;
+    }
+    0
+}
+
+// The last of the two that goes on, if any does.
+fn last_of(on: u64, low: Event, high: Event) -> Event
+    ensures { λ r. ⌜ r ≡ cond (ltb on 2) low high ⌝ }
+{
+    if on < 2 {
+        return low;
+    }
+    high
+}
+
+// What `decide` says of it, where so many steps are left.
+fn decide_last(on: u64, at: usize, room: usize, left: u64) -> u64
+    ensures { λ r. ⌜ r ≡ decidedLast on at room left ⌝ }
+{
+    if on == 0 {
+        return 0;
+    }
+    if room < at {
+        return 0;
+    }
+    if left == 0 {
+        return 1;
+    }
+    2
+}
+
 // The event of a node with no step left.
 fn finish(work: &[u64], node: Event) -> Event
     requires { ⌜ Tables (now work) ⌝ }
@@ -112,7 +157,7 @@ fn first_node(n: u64, k: u64) -> Event
 // ---- what a call asks and answers
 
 // Questions 3, 4, 5, 7, 8, 9 and 10: the number of the first that says no, or 0.
-fn ask(generators: &[u64], v: u64, bits: u64, d: u64, size: usize) -> u64
+pub fn ask(generators: &[u64], v: u64, bits: u64, d: u64, size: usize) -> u64
     ensures { λ r. ⌜ r ≡ firstNo (collectQuestions (now (generators .entry)) v bits d size) ⌝ }
 {
     let shape = ask_shape(generators.len() as u64, v, bits);
@@ -181,7 +226,7 @@ fn push_event(table: &mut [Event], at: usize, e: Event) -> usize
     at + 1
 }
 
-fn clear_events(table: &mut [Event])
+pub fn clear_events(table: &mut [Event])
     ensures { λ _. ⌜ now (table .exit) ≡ replicate (length (now (table .entry))) noEvent ⌝ }
 {
     let zero = Event {
@@ -198,23 +243,33 @@ fn clear_events(table: &mut [Event])
     }
 }
 
-// The events that come of the node are appended at `at`; the position after them.
+// The events that come of the node are appended at `at`; the position after them. A node of which one node before goes on is followed in the loop;
+// where both go on, the first is followed by a call.
 fn descend(work: &[u64], table: &mut [Event], at: usize, node: Event) -> usize
     requires { ⌜ Tables (now work) × ((lengthAt (now work) ≤ 128) × (Node node × (at ≤ length (now table) + 1))) ⌝ }
     ensures { λ r. ⌜ (now (table .exit), r) ≡ appends (found (now (work .entry)) node) (now (table .entry), at) ⌝ }
 {
-    let what = decide(work, at, table.len(), node);
-    if what == 0 {
-        return at;
+    let room = table.len();
+    let mut next = at;
+    let mut e = node;
+    let mut what = decide(work, at, room, node);
+    while what == 2 {
+        let low = step_back(work, e, 0);
+        let high = step_back(work, e, 1);
+        let on = ways_on(work, low, high);
+        if on == 3 {
+            let after = descend(work, table, next, low);
+            next = after;
+        }
+        e = last_of(on, low, high);
+        let then = decide_last(on, next, room, e.length);
+        what = then;
     }
     if what == 1 {
-        let e = finish(work, node);
-        return push_event(table, at, e);
+        let event = finish(work, e);
+        return push_event(table, next, event);
     }
-    let low = step_back(work, node, 0);
-    let next = descend(work, table, at, low);
-    let high = step_back(work, node, 1);
-    descend(work, table, next, high)
+    next
 }
 
 // The events of weight below d, by state, length and input, of the code of memory v that the generators give, on walks of at most `bits` steps. The

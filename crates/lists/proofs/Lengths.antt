@@ -1,7 +1,7 @@
 -- How long the lists of `specs/Lists.antt` are, and what stands where in ranges, their images and padded lists.
 -- Assumes nothing.
 use Prim.Native.Nat.{ℕ, zero, suc, _+_, _-_, _≤_, _<_}
-use native.Mathlib.Nat.{add-zero, add-suc, suc-add, le-of-suc-le-suc}
+use native.Mathlib.Nat.{add-zero, zero-add, add-suc, suc-add, le-of-suc-le-suc}
 use native.Mathlib.Omega.{arith}
 use mathlib.Core.Path.{_≡_, refl, sym, ap, ap₂, _∙_, fun-ext}
 use mathlib.Core.Bool.{Bool, true, false, cond}
@@ -106,3 +106,11 @@ pub upFrom-last : (n k : ℕ) → upFrom n (suc k) ≡ upFrom n k ++ ((n + k) �
 unfolding upFrom
 upFrom-last n zero = ap (λ (x : ℕ). x ∷ []) (sym (add-zero n))
 upFrom-last n (suc k) = ap (λ (l : List ℕ). n ∷ l) (upFrom-last (suc n) k ∙ ap (λ (x : ℕ). upFrom (suc n) k ++ (x ∷ [])) (suc-add n k ∙ sym (add-suc n k)))
+
+-- a range in two
+pub upFrom-append : (x n m : ℕ) → upFrom x (n + m) ≡ upFrom x n ++ upFrom (x + n) m
+unfolding upFrom
+upFrom-append x zero m = ap₂ upFrom (sym (add-zero x)) (zero-add m)
+upFrom-append x (suc n) m =
+    ap (upFrom x) (suc-add n m)
+    ∙ ap (λ (l : List ℕ). x ∷ l) (upFrom-append (suc x) n m ∙ ap (λ (y : ℕ). upFrom (suc x) n ++ upFrom y m) (suc-add x n ∙ sym (add-suc x n)))

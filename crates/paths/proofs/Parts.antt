@@ -78,7 +78,7 @@ too-long counts w table h l =
     refused-of counts w table (sym (and-yes _ _ (lt-ltb w (length counts) h)) ∙ lt-leb (2 * (pathsBefore counts w + getD counts w 0)) (length table) l)
 
 -- what the sum up to the limit says
-before-within : (counts : List ℕ) (w limit x : ℕ) → x ≡ beforeOr counts w limit → x ≤ limit → x ≡ pathsBefore counts w
+pub before-within : (counts : List ℕ) (w limit x : ℕ) → x ≡ beforeOr counts w limit → x ≤ limit → x ≡ pathsBefore counts w
 unfolding beforeOr
 before-within counts w limit x e h = by (leb (pathsBefore counts w) limit) e
   where

@@ -1,10 +1,11 @@
 -- The tail-biting paths below the threshold (document 01: paths), as one ordered list, and how many there are of each weight (the plain counts).
 -- By cyclic products alone: no state, walk or event enters here.
 -- Assumes nothing.
-use Prim.Native.Nat.{ℕ, zero, suc, _+_, _-_, _*_, _/_, _%_, _^_}
-use mathlib.Core.List.{List, [], _∷_, map, flatMap}
+use Prim.Native.Nat.{ℕ, _-_, _/_, _^_}
+use mathlib.Core.List.{List, map, flatMap}
 use lib.Dec.{eqb}
 use Rattle.lists.specs.Lists.{upFrom, filter, count, padded}
+use Rattle.poly.specs.Word.{halves}
 use Rattle.code.specs.Weight.{weight}
 use Rattle.order.specs.Order.{Order}
 
@@ -30,11 +31,7 @@ plainCounts o = map (λ w. count (λ u. eqb (weight (o .N) (o .generators) u) w)
 
 -- ---- the lent tables
 
--- a word in two halves of 64 bits, the low half first
-unfoldable pub halves : ℕ → List ℕ
-halves u = u % 2 ^ 64 ∷ u / 2 ^ 64 ∷ []
-
--- what a path table of `size` numbers holds after an accepted call: two numbers a path, zeros after the last path, an odd last number too
+-- what a path table of `size` numbers holds after an accepted call: two numbers a path, the low half first, zeros after the last path, an odd last number too
 unfoldable pub pathTable : ℕ → Order → List ℕ
 pathTable size o = padded size 0 (flatMap halves (paths o))
 

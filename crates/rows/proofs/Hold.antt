@@ -11,7 +11,8 @@ use Rattle.code.specs.Trellis.{next, tapped, stepOutput, stepWeight, walkWeight
 use Rattle.order.specs.Questions.{firstNo, from-to, inRange, hasBit, workSize, orderNumbers, generatorQuestions}
 use Rattle.order.specs.Order.{orderQuestions}
 use Rattle.events.specs.Events.{listed, eventsOfLength, eventsOfState, events, entry, noEvent, eventTable}
-use Rattle.paths.specs.Paths.{words, wordsOfWeight, weights, paths, plainCounts, halves, pathTable, pathRoom}
+use Rattle.poly.specs.Word.{halves}
+use Rattle.paths.specs.Paths.{words, wordsOfWeight, weights, paths, plainCounts, pathTable, pathRoom}
 use Rattle.search.specs.Undetected.{passes, undetectedCount, undetectedCounts}
 use Rattle.search.specs.Choice.{candidates, fewer, betters, best, choiceOf, choice}
 use Rattle.search.specs.Row.{cleared, allCleared, filled, searchQuestions, chosen, counted, asked, search}

@@ -12,13 +12,46 @@
 //! assert_eq!(dohvrin::strip(70, 6, 0x43, word), Ok(dohvrin::Stripped::Message(5)));
 //! assert_eq!(dohvrin::test(70, 6, 0x40, word), Err(dohvrin::Refusal(11)));
 //! ```
+//!
+//! Error events go into a table that the caller lends, with a work area:
+//!
+//! ```
+//! use dohvrin::{collect, Event, Refusal, WORK};
+//!
+//! let (mut table, mut work) = ([Event::default(); 6], vec![0; WORK]);
+//! assert_eq!(collect(&[1, 3], 1, 3, 5, &mut table, &mut work), Ok(4));
+//! let listed = table.map(|e| (e.state, e.length, e.weight, e.input()));
+//! assert_eq!(listed[..4], [(0, 1, 0, 0), (0, 2, 3, 1), (0, 3, 4, 3), (1, 1, 1, 1)]);
+//! assert_eq!(listed[4..], [(0, 0, 0, 0); 2]);
+//! assert_eq!(collect(&[1, 3], 1, 3, 5, &mut table[..3], &mut work), Err(Refusal(13)));
+//! ```
+//!
+//! Paths go into one more table, two numbers a word, and are counted by weight;
+//! `part` finds the words of one weight again:
+//!
+//! ```
+//! use dohvrin::{list, part, words, Event, Listed, Refusal, WORK};
+//!
+//! let (mut events, mut work) = ([Event::default(); 5], vec![0; WORK]);
+//! let (mut paths, mut counts) = ([0; 30], [0; 7]);
+//! let listed = list(&[1, 3], 1, 4, 7, &mut events, &mut paths, &mut counts, &mut work);
+//! assert_eq!(listed, Ok(Listed { events: 5, paths: 15 }));
+//! assert_eq!(counts, [0, 0, 0, 4, 5, 4, 2]);
+//! let heaviest: Vec<u128> = words(part(&paths, &counts, 6).unwrap()).collect();
+//! assert_eq!(heaviest, [5, 10]);
+//! assert_eq!(part(&paths, &counts, 7), Err(Refusal(10)));
+//! ```
 
 pub mod raw;
 
+pub use raw::Event;
 use std::error::Error;
 use std::fmt;
 
-/// The number of the first question that says no, 1 to 12.
+/// The least numbers of a work area.
+pub const WORK: usize = 8192;
+
+/// The number of the first question that says no, 1 to 14.
 #[derive(Clone, Copy, Debug, PartialEq, Eq)]
 pub struct Refusal(pub u64);
 
@@ -110,6 +143,113 @@ pub fn encode(
     // is borrowed alone, so that they do not overlap.
     let refusal = unsafe { raw::dohvrin_encode(start, count, v, bits, low, high, out, size) };
     accepted(refusal)
+}
+
+/// The error events of weight below d, at most `bits` steps long: how many.
+/// The table has them first, by state, length and input number, and zero
+/// records after them; the work area, of `WORK` numbers at least, is zeros.
+/// Refusal 13, more events than entries, leaves zeros in both; another refusal
+/// leaves both as they were.
+pub fn collect(
+    generators: &[u64],
+    v: u64,
+    bits: u64,
+    d: u64,
+    table: &mut [Event],
+    work: &mut [u64],
+) -> Result<usize, Refusal> {
+    let (start, count) = (generators.as_ptr(), generators.len());
+    let (events, entries) = (table.as_mut_ptr(), table.len());
+    let (area, size) = (work.as_mut_ptr(), work.len());
+    // SAFETY: pointers and counts are those of three slices, of which table
+    // and work area are borrowed alone, so that none overlaps another.
+    let answer =
+        unsafe { raw::dohvrin_collect(start, count, v, bits, d, events, entries, area, size) };
+    accepted(answer.refusal)?;
+    // Not more than the table's entries.
+    Ok(answer.value as usize)
+}
+
+/// What a listing leaves in its tables.
+#[derive(Clone, Copy, Debug, PartialEq, Eq)]
+pub struct Listed {
+    /// How many events.
+    pub events: usize,
+    /// How many paths.
+    pub paths: usize,
+}
+
+/// The paths of weight below d, nonzero words of `bits` bits, with the events
+/// that they are joined of: how many there are of both. The path table has two
+/// numbers for each path, its low half first, ordered by weight and number, and
+/// zeros after them; `counts` says how many paths there are of each weight from
+/// 0 to d - 1, with zeros after them; the event table is as `collect` leaves it;
+/// the work area, of `WORK` numbers at least, is zeros. Refusals 13, more events
+/// than entries, and 14, more paths than the table takes, leave zeros in all
+/// four; another refusal leaves all four as they were.
+#[allow(clippy::too_many_arguments)]
+pub fn list(
+    generators: &[u64],
+    v: u64,
+    bits: u64,
+    d: u64,
+    events: &mut [Event],
+    paths: &mut [u64],
+    counts: &mut [u64],
+    work: &mut [u64],
+) -> Result<Listed, Refusal> {
+    // SAFETY: pointers and counts are those of five slices, of which all but
+    // the generators are borrowed alone, so that none overlaps another.
+    let answer = unsafe {
+        raw::dohvrin_list(
+            generators.as_ptr(),
+            generators.len(),
+            v,
+            bits,
+            d,
+            events.as_mut_ptr(),
+            events.len(),
+            paths.as_mut_ptr(),
+            paths.len(),
+            counts.as_mut_ptr(),
+            counts.len(),
+            work.as_mut_ptr(),
+            work.len(),
+        )
+    };
+    accepted(answer.refusal)?;
+    // Not more than the tables take.
+    Ok(Listed {
+        events: answer.events as usize,
+        paths: answer.paths as usize,
+    })
+}
+
+/// The words of one weight in a path table, two numbers each, by the counts of
+/// its paths. Refusal 10: there is no count of that weight, or the table ends
+/// before the words that the counts tell of.
+pub fn part<'a>(paths: &'a [u64], counts: &[u64], weight: u64) -> Result<&'a [u64], Refusal> {
+    let (table, numbers) = (paths.as_ptr(), paths.len());
+    let (start, entries) = (counts.as_ptr(), counts.len());
+    // SAFETY: pointers and counts are those of two slices, which nothing writes
+    // meanwhile.
+    let answer = unsafe { raw::dohvrin_part(table, numbers, start, entries, weight) };
+    accepted(answer.refusal)?;
+    let start = answer.start as usize;
+    Ok(&paths[start..start + answer.numbers as usize])
+}
+
+/// The words of a path table, or of a part of it.
+pub fn words(numbers: &[u64]) -> impl Iterator<Item = u128> + '_ {
+    let word = |pair: &[u64]| u128::from(pair[1]) << 64 | u128::from(pair[0]);
+    numbers.chunks_exact(2).map(word)
+}
+
+impl Event {
+    /// The input number: the first input is bit 0.
+    pub fn input(&self) -> u128 {
+        u128::from(self.high) << 64 | u128::from(self.low)
+    }
 }
 
 /// The order of a record.

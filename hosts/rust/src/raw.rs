@@ -26,8 +26,40 @@ pub struct OrderAnswer {
     pub g4: u64,
 }
 
+/// `struct dohvrin_event`.
+#[repr(C)]
+#[derive(Clone, Copy, Debug, Default, PartialEq, Eq)]
+pub struct Event {
+    pub state: u64,
+    pub length: u64,
+    pub weight: u64,
+    pub low: u64,
+    pub high: u64,
+}
+
+/// `struct dohvrin_listing`.
+#[repr(C)]
+#[derive(Clone, Copy, Debug, Default, PartialEq, Eq)]
+pub struct Listing {
+    pub refusal: u64,
+    pub events: u64,
+    pub paths: u64,
+}
+
+/// `struct dohvrin_part`.
+#[repr(C)]
+#[derive(Clone, Copy, Debug, Default, PartialEq, Eq)]
+pub struct Part {
+    pub refusal: u64,
+    pub start: u64,
+    pub numbers: u64,
+}
+
 const _: () = assert!(std::mem::size_of::<Answer>() == 32);
 const _: () = assert!(std::mem::size_of::<OrderAnswer>() == 80);
+const _: () = assert!(std::mem::size_of::<Event>() == 40);
+const _: () = assert!(std::mem::size_of::<Listing>() == 24);
+const _: () = assert!(std::mem::size_of::<Part>() == 24);
 
 extern "C" {
     pub fn dohvrin_append(bits: u64, m: u64, polynomial: u64, low: u64, high: u64) -> Answer;
@@ -51,5 +83,38 @@ extern "C" {
         output: *mut u8,
         size: usize,
     ) -> u64;
+    pub fn dohvrin_collect(
+        generators: *const u64,
+        count: usize,
+        v: u64,
+        bits: u64,
+        d: u64,
+        table: *mut Event,
+        entries: usize,
+        work: *mut u64,
+        size: usize,
+    ) -> Answer;
+    pub fn dohvrin_list(
+        generators: *const u64,
+        count: usize,
+        v: u64,
+        bits: u64,
+        d: u64,
+        events: *mut Event,
+        event_entries: usize,
+        paths: *mut u64,
+        path_numbers: usize,
+        counts: *mut u64,
+        count_entries: usize,
+        work: *mut u64,
+        work_numbers: usize,
+    ) -> Listing;
+    pub fn dohvrin_part(
+        paths: *const u64,
+        path_numbers: usize,
+        counts: *const u64,
+        count_entries: usize,
+        weight: u64,
+    ) -> Part;
     pub fn dohvrin_read_order(bytes: *const u8, size: usize) -> OrderAnswer;
 }

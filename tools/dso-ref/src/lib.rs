@@ -13,6 +13,7 @@
 pub mod events;
 mod layer;
 pub mod link;
+pub mod listing;
 pub mod order;
 pub mod paths;
 pub mod poly;

@@ -1,5 +1,6 @@
 //! The order and its record.
 
+use crate::link::Code;
 use crate::questions::{self, Asked, Refusal};
 
 /// An order that has passed questions 3 to 9.
@@ -75,6 +76,15 @@ impl Order {
     /// The generators, in the order's order.
     pub fn generators(&self) -> &[u64] {
         &self.generators
+    }
+
+    /// Its code, as the calls take it.
+    pub fn code(&self) -> Code<'_> {
+        Code {
+            memory: self.memory,
+            length: self.length,
+            generators: &self.generators,
+        }
     }
 }
 

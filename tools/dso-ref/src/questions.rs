@@ -60,6 +60,16 @@ pub fn codeword_room(room: usize, n: usize, length: usize) -> Asked {
     ask(10, room >= n * length)
 }
 
+/// Question 10, for the work area: has it 8,192 numbers or more?
+pub fn work_size(size: usize) -> Asked {
+    ask(10, size >= 8192)
+}
+
+/// Question 10, for the plain counts: is there an entry for each weight?
+pub fn count_entries(entries: usize, d: usize) -> Asked {
+    ask(10, entries >= d)
+}
+
 /// Question 11: has the polynomial degree m and constant term 1?
 pub fn polynomial(p: u64, m: usize) -> Asked {
     ask(11, p >> m == 1 && p & 1 == 1)
@@ -69,4 +79,9 @@ pub fn polynomial(p: u64, m: usize) -> Asked {
 pub fn below_power(word: u128, bits: usize) -> Asked {
     // A shift by 128 is no shift at all, and every u128 is below 2^128.
     ask(12, bits >= 128 || word >> bits == 0)
+}
+
+/// Question 14: are there at most as many paths as entries?
+pub fn path_entries(entries: usize, paths: usize) -> Asked {
+    ask(14, paths <= entries)
 }

@@ -148,7 +148,7 @@ pub fn count(
 
 /// Plain counts below d, or refusal 14. The threshold rises, so that a great
 /// many paths are noticed where they are still few.
-fn plain_within(
+pub fn plain_within(
     counter: &mut impl Counter,
     d: usize,
     capacity: usize,

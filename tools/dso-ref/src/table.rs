@@ -3,6 +3,7 @@
 //! has come back and the remainder is 0.
 
 use crate::layer::{Key, Layer};
+use crate::link::Code;
 use crate::order::Order;
 use crate::search::Counter;
 use crate::trellis::{Trellis, NEVER};
@@ -22,8 +23,13 @@ pub type Return = Vec<Vec<u8>>;
 impl Table {
     /// The table of the order's code and length.
     pub fn new(order: &Order) -> Table {
-        let trellis = Trellis::new(order);
-        let length = order.length();
+        Table::of(order.code(), order.threshold())
+    }
+
+    /// The table of a right code, for weights below the threshold.
+    pub fn of(code: Code, threshold: usize) -> Table {
+        let trellis = Trellis::new(code.memory, code.generators);
+        let length = code.length;
         let least = (0..trellis.states())
             .map(|start| least_return(&trellis, start, length))
             .collect();
@@ -31,7 +37,7 @@ impl Table {
             trellis,
             length,
             least,
-            cells: Cells::new(order.threshold()),
+            cells: Cells::new(threshold),
         }
     }
 

@@ -1,7 +1,5 @@
 //! The trellis of a code: from state s, input b leads to (2s+b) mod 2^v.
 
-use crate::order::Order;
-
 /// A weight past every threshold: no walk.
 pub const NEVER: u8 = u8::MAX;
 
@@ -12,14 +10,13 @@ pub struct Trellis {
 }
 
 impl Trellis {
-    /// The trellis of the order's code.
-    pub fn new(order: &Order) -> Trellis {
-        let states = 1 << order.memory();
+    /// The trellis of the code of a memory and generators.
+    pub fn new(memory: usize, generators: &[u64]) -> Trellis {
+        let states = 1 << memory;
         // 2s+b has the input at bit 0 and the state's bits above it, which is
         // the order of a generator's coefficients.
         let ones = |window: u64| {
-            order
-                .generators()
+            generators
                 .iter()
                 .map(move |g| (g & window).count_ones() % 2)
         };

@@ -1,5 +1,6 @@
 //! Counting by taking all words one by one, straight from the definition.
 
+use crate::link::Code;
 use crate::order::Order;
 use crate::poly;
 use crate::search::Counter;
@@ -15,12 +16,17 @@ pub struct Words {
 impl Words {
     /// Weighs the words 1 to 2^N - 1; nothing where N is above `LONGEST`.
     pub fn new(order: &Order) -> Option<Words> {
-        if order.length() > LONGEST {
+        Words::of(order.code(), order.threshold())
+    }
+
+    /// The same of a right code and a threshold.
+    pub fn of(code: Code, threshold: usize) -> Option<Words> {
+        if code.length > LONGEST {
             return None;
         }
-        let mut by_weight = vec![Vec::new(); order.threshold()];
-        for u in 1..1 << order.length() {
-            if let Some(part) = by_weight.get_mut(weight(order, u)) {
+        let mut by_weight = vec![Vec::new(); threshold];
+        for u in 1..1 << code.length {
+            if let Some(part) = by_weight.get_mut(weight(code, u)) {
                 part.push(u);
             }
         }
@@ -44,11 +50,11 @@ impl Words {
 }
 
 /// The number of ones in all outputs u g modulo x^N+1.
-fn weight(order: &Order, u: u128) -> usize {
-    let outputs = order
-        .generators()
+fn weight(code: Code, u: u128) -> usize {
+    let outputs = code
+        .generators
         .iter()
-        .map(|&g| poly::cyclic_product(u, g, order.length()));
+        .map(|&g| poly::cyclic_product(u, g, code.length));
     outputs.map(|out| out.count_ones() as usize).sum()
 }
 

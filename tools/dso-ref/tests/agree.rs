@@ -4,7 +4,7 @@ mod common;
 
 use common::Random;
 use dso_ref::events::{self, Event};
-use dso_ref::link::{self, Code};
+use dso_ref::link;
 use dso_ref::poly;
 use dso_ref::row::{self, count};
 use dso_ref::search::{Best, Counter};
@@ -151,6 +151,45 @@ fn events_agree_with_their_definition() {
     }
 }
 
+/// Walks that are followed in one order, at most.
+const STEPS: usize = 1 << 18;
+
+#[test]
+fn events_with_and_without_a_cut_agree() {
+    let mut random = Random(6);
+    let mut checked = 0;
+    while checked < 1000 {
+        let order = random.order(8, 24, 8, 40);
+        if let Some(walked) = events::walked(order.code(), order.threshold(), STEPS) {
+            assert_eq!(events::list(&order, walked.len()), Ok(walked), "{order}");
+            checked += 1;
+        }
+    }
+}
+
+#[test]
+fn one_changed_record_is_no_list_of_events() {
+    let mut random = Random(7);
+    for _ in 0..1000 {
+        let order = random.order(4, 12, 4, 12);
+        let right =
+            |records: &[Event]| events::are_listed(order.code(), order.threshold(), records);
+        let mut records = events::list(&order, ALL).unwrap();
+        assert!(right(&records), "{order}");
+        // The zero loop at state 0 is always there.
+        let at = random.from(0, records.len() - 1);
+        let event = records[at];
+        records[at].weight ^= 1;
+        assert!(!right(&records), "{order}");
+        records[at] = event;
+        records[at].input ^= 1 << event.length;
+        assert!(!right(&records), "{order}");
+        records[at] = event;
+        records.insert(at, event);
+        assert!(!right(&records), "{order}");
+    }
+}
+
 #[test]
 fn the_table_agrees_with_the_listed_paths_of_long_orders() {
     let mut random = Random(5);
@@ -176,13 +215,12 @@ fn the_table_agrees_with_the_listed_paths_of_long_orders() {
 fn weighed_and_divided(order: &Order, listed: &[(u32, u128)], p: u64) -> (Vec<u128>, Vec<u128>) {
     let mut plain = vec![0; order.threshold()];
     let mut undetected = plain.clone();
-    let code = Code {
-        memory: order.memory(),
-        length: order.length(),
-        generators: order.generators(),
-    };
     for &(weight, word) in listed {
-        assert_eq!(link::weight(code, word), Ok(weight), "{order} {word}");
+        assert_eq!(
+            link::weight(order.code(), word),
+            Ok(weight),
+            "{order} {word}"
+        );
         plain[weight as usize] += 1;
         undetected[weight as usize] += u128::from(poly::divides(p, word));
     }

@@ -1,6 +1,7 @@
 //! The rows of document 01 to check by hand, and what it says of each answer.
 
 use dso_ref::events;
+use dso_ref::link::Code;
 use dso_ref::row::{self, count, row};
 use dso_ref::search::Best;
 use dso_ref::table::Table;
@@ -42,6 +43,28 @@ fn code_s_of_length_3() {
     assert_eq!(short(&order(3, 2, 4, &[1, 3])).2, [0; 4]);
     assert_eq!(short(&order(3, 2, 4, &[1, 3])).3, 0x5);
     assert_eq!(run(&order(3, 2, 3, &[1, 3]), Lent::default()), tie(2));
+}
+
+#[test]
+fn the_collection_takes_no_check_degree_and_asks_in_order() {
+    let code = |memory, length, generators| Code {
+        memory,
+        length,
+        generators,
+    };
+    let no = |number| Err(Refusal::No(number));
+    let loops = |code| events::collect(code, 2, 2, 8192).map(|listed| listed.len());
+    // One step from each state back to it: 0 of weight 0, 1 of weight 1.
+    assert_eq!(loops(code(1, 1, &[1, 3])), Ok(2));
+    assert_eq!(events::collect(code(0, 0, &[0]), 0, 0, 0), no(3));
+    assert_eq!(events::collect(code(0, 0, &[0, 0]), 0, 0, 0), no(4));
+    assert_eq!(events::collect(code(2, 1, &[0, 0]), 0, 0, 0), no(5));
+    assert_eq!(events::collect(code(1, 1, &[0, 0]), 0, 0, 0), no(7));
+    assert_eq!(events::collect(code(1, 1, &[0, 0]), 65, 0, 0), no(7));
+    assert_eq!(events::collect(code(1, 1, &[0, 3]), 2, 0, 0), no(8));
+    assert_eq!(events::collect(code(1, 1, &[1, 1]), 2, 0, 0), no(9));
+    assert_eq!(events::collect(code(1, 1, &[1, 3]), 2, 0, 8191), no(10));
+    assert_eq!(events::collect(code(1, 1, &[1, 3]), 2, 1, 8192), no(13));
 }
 
 #[test]

@@ -11,23 +11,23 @@ const FILL: u8 = 0xA5;
 const GUARD: u8 = 0x3C;
 const GUARDS: usize = 64;
 
-/// What both calls take: the first `count` generators; the others stand behind
-/// them in memory and must not matter.
+/// What a call takes of a code, and a word: the first `count` generators; the
+/// others stand behind them in memory and must not matter.
 #[derive(Clone, Copy, Debug)]
-struct Input {
-    generators: [u64; 8],
-    count: usize,
-    v: u64,
-    bits: u64,
-    word: u128,
+pub struct Input {
+    pub generators: [u64; 8],
+    pub count: usize,
+    pub v: u64,
+    pub bits: u64,
+    pub word: u128,
 }
 
 impl Input {
-    fn given(&self) -> &[u64] {
+    pub fn given(&self) -> &[u64] {
         &self.generators[..self.count]
     }
 
-    fn code(&self) -> Code<'_> {
+    pub fn code(&self) -> Code<'_> {
         Code {
             memory: size(self.v),
             length: size(self.bits),
@@ -140,7 +140,7 @@ fn draw_room(random: &mut Random, i: &Input) -> usize {
 }
 
 /// Half of the inputs are right; of the others most have one thing wrong.
-fn draw(random: &mut Random) -> Input {
+pub fn draw(random: &mut Random) -> Input {
     match random.within(0, 15) {
         0..=7 => right(random),
         8..=12 => damaged(random),
@@ -160,7 +160,7 @@ fn draw(random: &mut Random) -> Input {
     }
 }
 
-fn right(random: &mut Random) -> Input {
+pub fn right(random: &mut Random) -> Input {
     let v = random.within(1, 8);
     let bits = random.length(v);
     let count = 2 + random.index(3);

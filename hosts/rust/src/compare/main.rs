@@ -8,6 +8,8 @@
 
 mod checks;
 mod codes;
+mod events;
+mod paths;
 mod random;
 mod records;
 mod tally;
@@ -15,21 +17,39 @@ mod tally;
 use dohvrin::raw::Answer;
 use dso_ref::Refusal;
 use std::process::ExitCode;
+use tally::Tally;
 
 const INPUTS: u64 = 400_000;
+/// Inputs of a collection, and small orders whose tables are compared.
+const COLLECTIONS: u64 = 3_000;
+/// Inputs of a listing, small orders, and orders of longer words.
+const LISTINGS: u64 = 2_000;
+const SMALL_LISTINGS: u64 = 2_000;
+const LONG_LISTINGS: u64 = 60;
+
+/// Compares a call on so many inputs.
+type Family = fn(u64) -> Tally;
 
 fn main() -> ExitCode {
-    let families = [
-        checks::append,
-        checks::strip,
-        checks::test,
-        codes::weigh,
-        codes::encode,
-        records::read_order,
+    let families: [(Family, u64); 14] = [
+        (checks::append, INPUTS),
+        (checks::strip, INPUTS),
+        (checks::test, INPUTS),
+        (codes::weigh, INPUTS),
+        (codes::encode, INPUTS),
+        (records::read_order, INPUTS),
+        (events::collect, COLLECTIONS),
+        (events::small_tables, COLLECTIONS),
+        (events::large_tables, 1),
+        (paths::list, LISTINGS),
+        (paths::small_tables, SMALL_LISTINGS),
+        (paths::long_tables, LONG_LISTINGS),
+        (paths::large_tables, 1),
+        (paths::part, INPUTS),
     ];
     let (mut passed, mut failed) = (0, 0);
-    for family in families {
-        let mut tally = family(INPUTS);
+    for (family, inputs) in families {
+        let mut tally = family(inputs);
         tally.finish();
         passed += tally.passed;
         failed += tally.failed;

@@ -1,0 +1,9 @@
+pub mod Kept
+pub mod Loops
+pub mod Cases
+pub mod Survey
+pub mod Carried
+pub mod Placed
+pub mod Ready
+pub mod States
+pub mod Looked

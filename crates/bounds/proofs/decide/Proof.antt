@@ -1,0 +1,53 @@
+-- The cases, one by one.
+-- Assumes nothing.
+use borrow.Author.Needs.{needs}
+use native.Mathlib.Omega.{arith}
+use Prim.Native.Nat.{_-_}
+use Rattle.bounds.proofs.Cases.{decided-long, decided-heavy, decided-end, decided-light, decided-joined, decided-passed, weight-fits}
+use Rattle.bounds.proofs.decide.Statement.{statement}
+use Rattle.bounds.proofs.decide.Tie as tie
+
+returns : tie.Need-returns
+returns c = decided-long _ _ _ (c .if1 .taken)
+
+returns-2 : tie.Need-returns-2
+returns-2 c = decided-heavy _ _ _ (c .if2 .taken)
+
+returns-3 : tie.Need-returns-3
+returns-3 c = decided-end _ _ _ (c .before .before .before .if3 .taken) (c .if4 .taken)
+
+returns-4 : tie.Need-returns-4
+returns-4 c = decided-light _ _ _ (c .before .before .before .if3 .taken) (omega arith) (c .if4 .left)
+
+add-if5 : tie.Need-add-if5
+add-if5 c = search needs
+
+mul-if5 : tie.Need-mul-if5
+mul-if5 c = search needs
+
+shared-slice-read-if5 : tie.Need-shared-slice-read-if5
+shared-slice-read-if5 c = search needs
+
+add-if5-2 : tie.Need-add-if5-2
+add-if5-2 c = let b = c .before .before .before .before .before .before .before .before .before .before .before .before .before in record { fits = weight-fits _ (b .args .e .weight) (b .args .node .length - b .args .e .length) (omega arith) (omega arith) (b .pre .0) }
+
+returns-5 : tie.Need-returns-5
+returns-5 c = decided-joined _ _ _ (omega arith) (λ q. absurd (omega arith)) (omega arith) (c .if5 .taken)
+
+returns-6 : tie.Need-returns-6
+returns-6 c = decided-passed _ _ _ (omega arith) (λ q. absurd (omega arith)) (omega arith) (omega arith)
+
+pub decide-spec : {M : Type 1} → statement M
+decide-spec =
+    tie.close
+    (tie.spec
+    returns
+    returns-2
+    returns-3
+    returns-4
+    add-if5
+    mul-if5
+    shared-slice-read-if5
+    add-if5-2
+    returns-5
+    returns-6)

@@ -1,0 +1,191 @@
+-- What the chaining finds is what the model of the recursion joins (`paths`' specs/Chains.antt), where the table holds an order's events and the work
+-- area tells where each state's begin: state by state (`found-is-stateWords`), and over all states (`foundFrom-is-chainWords`).
+-- Assumes nothing.
+use Prim.Native.Nat.{ℕ, zero, suc, _+_, _-_, _*_, _/_, _%_, _^_, _≤_, _<_}
+use native.Mathlib.Nat.{lt-of-lt-of-le}
+use native.Mathlib.Numerals.{add-one}
+use native.Mathlib.Omega.{arith}
+use mathlib.Core.Path.{_≡_, refl, sym, ap, ap₂, _∙_, subst}
+use mathlib.Core.Logic.{inl, inr}
+use mathlib.Core.List.{List, _++_, map, flatMap, List·Memᴰ, Memᴰ·map, Memᴰ·of-map}
+use lib.ListN.{length, getD}
+use Rattle.lists.specs.Lists.{upFrom}
+use Rattle.lists.proofs.Member.{upFrom-bounds, in-upFrom}
+use Rattle.lists.proofs.Sorted.{Sorted, sorted-known, upFrom-sorted}
+use Rattle.lists.proofs.Keys.{By, ByThen, by-asymmetric, byThen-asymmetric, blocks-sorted}
+use Rattle.order.specs.Order.{Order}
+use Rattle.events.specs.declared.Event.{Event}
+use Rattle.events.specs.Events.{ErrorEvent, eventsOfLength, eventsOfState, events, entry, noEvent}
+use Rattle.events.proofs.Listed.{Before, of-events, in-events, of-eventsOfLength, eventsOfLength-sorted, events-sorted}
+use Rattle.events.proofs.OfState.{EventOf, mem-eventsOfState}
+use Rattle.paths.specs.Chains.{joined, stateWords, chainWords}
+use Rattle.bounds.specs.Tables.{firstOf, bitsAt}
+use Rattle.chains.specs.Chaining.{errorEvent, atHand, atState, afterStates, found, foundFrom, wholeNode, Indexed}
+use Rattle.chains.proofs.Slices.{getD-in, PlaceOf, place-of, sorted-at, range-sorted}
+use Rattle.chains.proofs.States.{start-atState, end-atState, bits-atState, first-atState, indexed-at-state}
+
+abbrev pub noErrorEvent : ErrorEvent
+noErrorEvent = record { state = 0; length = 0; weight = 0; input = 0 }
+
+-- the table begins with the order's events, and the work area tells where each state's stand
+pub record Delimits (o : Order) (table : List Event) (work : List ℕ) : Type 0 where
+  pub indexed : Indexed table work
+  pub bits : bitsAt work ≡ o .N
+  pub few-states : 2 ^ o .v ≤ 256
+  pub entries : (k : ℕ) → k < length (events o) → getD table k noEvent ≡ entry (getD (events o) k noErrorEvent)
+  pub last : (i : ℕ) → i ≤ 256 → firstOf work i ≤ length (events o)
+  pub placed : (k : ℕ) → k < length (events o) → (firstOf work (getD table k noEvent .state) ≤ k) × (k < firstOf work (getD table k noEvent .state + 1))
+  pub between : (k s : ℕ) → s < 256 → firstOf work s ≤ k → k < firstOf work (s + 1) → getD table k noEvent .state ≡ s
+
+-- an entry of the table is the event that it was made of
+errorEvent-entry : (e : ErrorEvent) → errorEvent (entry e) ≡ e
+unfolding errorEvent entry
+errorEvent-entry e = ap (λ (x : ℕ). record { state = e .state; length = e .length; weight = e .weight; input = x }) (halves (e .input))
+  where
+    halves : (c : ℕ) → c / 2 ^ 64 * 2 ^ 64 + c % 2 ^ 64 ≡ c
+    halves c = omega arith
+
+state-entry : (e : ErrorEvent) → entry e .state ≡ e .state
+unfolding entry
+state-entry e = refl
+
+-- ---- the events of a state, by length and input
+abbrev Within : ErrorEvent → ErrorEvent → Type 0
+Within = ByThen (λ e. e .length) (By (λ e. e .input))
+
+within-asymmetric : (e f : ErrorEvent) → Within e f → Within f e → ⊥
+within-asymmetric = byThen-asymmetric (λ e. e .length) (By (λ e. e .input)) (by-asymmetric (λ e. e .input))
+
+within-state : (e f : ErrorEvent) → e .state ≡ f .state → Before e f → Within e f
+within-state e f same (inl less) = absurd (omega arith)
+within-state e f same (inr h) = h .1
+
+state-sorted : (o : Order) (i : ℕ) → Sorted Within (eventsOfState o i)
+unfolding eventsOfState
+state-sorted o i =
+    blocks-sorted (λ e. e .length) (By (λ e. e .input)) (eventsOfLength o i) (λ l e m. sym (ap (λ (f : ErrorEvent). f .length) (of-eventsOfLength o i l m .3)))
+    (eventsOfLength-sorted o i) (upFrom 1 (o .N)) (upFrom-sorted 1 (o .N))
+
+module _ (o : Order) (table : List Event) (work : List ℕ) (d : Delimits o table work) where
+  abbrev count : ℕ
+  count = length (events o)
+
+  abbrev event : ℕ → ErrorEvent
+  event k = getD (events o) k noErrorEvent
+
+  -- the event at a place of the table
+  read : ℕ → ErrorEvent
+  read k = errorEvent (getD table k noEvent)
+
+  read-is : (k : ℕ) → k < count → read k ≡ event k
+  unfolding read
+  read-is k h = ap errorEvent (d .entries k h) ∙ errorEvent-entry (event k)
+
+  state-is : (k : ℕ) → k < count → getD table k noEvent .state ≡ event k .state
+  state-is k h = ap (λ (e : Event). e .state) (d .entries k h) ∙ state-entry (event k)
+
+  module _ (i : ℕ) (low : i < 2 ^ o .v) where
+    inside : i < 256
+    inside = lt-of-lt-of-le low (d .few-states)
+
+    abbrev from : ℕ
+    from = firstOf work i
+
+    abbrev to : ℕ
+    to = firstOf work (i + 1)
+
+    rising : from ≤ to
+    rising = let s = inside in d .indexed .rises i (i + 1) (omega arith) (omega arith)
+
+    before-count : (k : ℕ) → k < from + (to - from) → k < count
+    before-count k h = let s = inside in let l = d .last (i + 1) (omega arith) in let r = rising in omega arith
+
+    of-state : (k : ℕ) → from ≤ k → k < from + (to - from) → event k .state ≡ i
+    of-state k h g = let r = rising in sym (state-is k (before-count k g)) ∙ d .between k i inside h (omega arith)
+
+    slice : List ErrorEvent
+    slice = map read (upFrom from (to - from))
+
+    slice-sorted : Sorted Within slice
+    unfolding slice
+    slice-sorted =
+        range-sorted Within read from (to - from) (λ k l h g m.
+        let k-in : k < count = before-count k (omega arith) in
+        let l-in : l < count = before-count l m in
+        let b : Before (event k) (event l) = sorted-at noErrorEvent Before (events o) (events-sorted o) k l g l-in in
+        let w : Within (event k) (event l) = within-state (event k) (event l) (of-state k h (omega arith) ∙ sym (of-state l (omega arith) m)) b in
+        subst (λ (x : ErrorEvent). Within x (read l)) (sym (read-is k k-in)) (subst (Within (event k)) (sym (read-is l l-in)) w))
+
+    of-slice : (e : ErrorEvent) → List·Memᴰ e slice → EventOf o i e
+    unfolding slice
+    of-slice e m =
+        let h = Memᴰ·of-map read (upFrom from (to - from)) m in
+        let b = upFrom-bounds from (to - from) (h .1) in
+        let at : h .0 < count = before-count (h .0) (b .1) in
+        let is : event (h .0) ≡ e = sym (read-is (h .0) at) ∙ h .2 in
+        subst (EventOf o i) is record { state-is = of-state (h .0) (b .0) (b .1); event = of-events o (getD-in noErrorEvent (events o) (h .0) at) }
+
+    in-slice : (e : ErrorEvent) → EventOf o i e → List·Memᴰ e slice
+    unfolding slice
+    in-slice e h =
+        let p : PlaceOf noErrorEvent (events o) e = place-of noErrorEvent (events o) (in-events o (h .event)) in
+        let k : ℕ = p .place in
+        let same : getD table k noEvent .state ≡ i = state-is k (p .inside) ∙ ap (λ (x : ErrorEvent). x .state) (p .is) ∙ h .state-is in
+        let at = d .placed k (p .inside) in
+        let a : from ≤ k = subst (λ (s : ℕ). firstOf work s ≤ k) same (at .0) in
+        let b : k < to = subst (λ (s : ℕ). k < firstOf work (s + 1)) same (at .1) in
+        subst (λ (x : ErrorEvent). List·Memᴰ x (map read (upFrom from (to - from)))) (read-is k (p .inside) ∙ p .is) (Memᴰ·map read (in-upFrom from (to - from) a (omega arith)))
+
+    slice-is : slice ≡ eventsOfState o i
+    slice-is = sorted-known Within within-asymmetric (EventOf o i) slice (eventsOfState o i) slice-sorted (state-sorted o i) (λ e. (of-slice e, in-slice e)) (λ e. mem-eventsOfState o i e low)
+
+    pub at-hand-is : atHand table (atState table i work) ≡ eventsOfState o i
+    unfolding atHand slice read
+    at-hand-is =
+        ap₂ (λ (x y : ℕ). map (λ k. errorEvent (getD table k noEvent)) (upFrom x (y - x))) (start-atState table work (d .indexed) i inside) (end-atState table work (d .indexed) i inside) ∙ slice-is
+
+    pub found-is-stateWords : (w : ℕ) → found table (atState table i work) (wholeNode (bitsAt work) w) ≡ stateWords o i w
+    unfolding found wholeNode stateWords
+    found-is-stateWords w =
+        ap₂ (λ (es : List ErrorEvent) (N : ℕ). joined (bitsAt work) es N (bitsAt work) 0 0 w) at-hand-is (bits-atState table work (d .indexed) i inside)
+        ∙ ap (λ (N : ℕ). joined N (eventsOfState o i) N N 0 0 w) (d .bits)
+
+    -- the next state finds the same index
+    pub delimits-next : Delimits o table (atState table i work)
+    delimits-next =
+        let same : (j : ℕ) → j ≤ 256 → firstOf (atState table i work) j ≡ firstOf work j = first-atState table work (d .indexed) i inside in
+        record {
+          indexed = indexed-at-state table work (d .indexed) i inside;
+          bits = bits-atState table work (d .indexed) i inside ∙ d .bits;
+          few-states = d .few-states;
+          entries = d .entries;
+          last = λ j h. subst (λ (x : ℕ). x ≤ count) (sym (same j h)) (d .last j h);
+          placed = λ k h.
+              let s : ℕ = getD table k noEvent .state in
+              let s-in : s < 256 = subst (λ (x : ℕ). x < 256) (sym (state-is k h)) (lt-of-lt-of-le (of-events o (getD-in noErrorEvent (events o) k h) .state-fits) (d .few-states)) in
+              let at = d .placed k h in
+              (subst (λ (x : ℕ). x ≤ k) (sym (same s (omega arith))) (at .0), subst (λ (x : ℕ). k < x) (sym (same (s + 1) (omega arith))) (at .1));
+          between = λ k s h a b. d .between k s h (subst (λ (x : ℕ). x ≤ k) (same s (omega arith)) a) (subst (λ (x : ℕ). k < x) (same (s + 1) (omega arith)) b);
+        }
+
+-- n states from state i on
+found-from : (o : Order) (table : List Event) (w n i : ℕ) (work : List ℕ) → Delimits o table work → i + n ≤ 2 ^ o .v → foundFrom table w n i work ≡ flatMap (λ j. stateWords o j w) (upFrom i n)
+unfolding foundFrom upFrom flatMap
+found-from o table w zero i work d h = refl
+found-from o table w (suc n) i work d h =
+    let low : i < 2 ^ o .v = omega arith in
+    ap₂ _++_ (found-is-stateWords o table work d i low w)
+    (ap (λ (x : ℕ). foundFrom table w n x (atState table i work)) (add-one i) ∙ found-from o table w n (suc i) (atState table i work) (delimits-next o table work d i low) (omega arith))
+
+-- the index stays, however many states were at hand
+pub delimits-after : (o : Order) (table : List Event) (n i : ℕ) (work : List ℕ) → Delimits o table work → i + n ≤ 2 ^ o .v → Delimits o table (afterStates table n i work)
+unfolding afterStates
+delimits-after o table zero i work d h = d
+delimits-after o table (suc n) i work d h = delimits-after o table n (i + 1) (atState table i work) (delimits-next o table work d i (omega arith)) (omega arith)
+
+pub foundFrom-is-chainWords : (o : Order) (table : List Event) (work : List ℕ) (w : ℕ) → Delimits o table work → foundFrom table w (2 ^ o .v) 0 work ≡ chainWords o w
+unfolding chainWords
+foundFrom-is-chainWords o table work w d = found-from o table w (2 ^ o .v) 0 work d (all (2 ^ o .v))
+  where
+    all : (x : ℕ) → 0 + x ≤ x
+    all x = omega arith

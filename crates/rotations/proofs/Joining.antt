@@ -1,0 +1,103 @@
+-- A number with another set above it, a + x * 2^p where a < 2^p, in two halves of 64 bits as the code computes it: no sum of halves overflows.
+-- Assumes nothing.
+use Prim.Native.Nat.{ℕ, _+_, _-_, _*_, _/_, _%_, _^_, _≤_, _<_}
+use native.Mathlib.Nat.{zero-add, add-zero, add-comm, mul-one, mul-assoc, mod-eq-of-lt, mod-lt, mul-mod-left, mul-div-left, lt-of-mul-lt-mul-right, mul-le-mul-left, sub-add-cancel}
+use native.Mathlib.Omega.{arith}
+use mathlib.Core.Path.{_≡_, sym, ap, ap₂, _∙_, subst}
+use lib.Arith.{lt-one, digits-lt, mod-mul}
+use lib.Pow.{pow-pos, pow-add, pow-lt}
+use Rattle.poly.proofs.Shifts.{up-halves}
+
+-- ---- place 0
+
+pub joined-first : (h l g m p : ℕ) → p ≡ 0 → g * 2 ^ 64 + m < 2 ^ p → h * 2 ^ 64 + l ≡ g * 2 ^ 64 + m + (h * 2 ^ 64 + l) * 2 ^ p
+joined-first h l g m p e s =
+    let one : 2 ^ p ≡ 1 = ap (λ (x : ℕ). 2 ^ x) e in
+    let none : g * 2 ^ 64 + m ≡ 0 = lt-one (subst (λ (x : ℕ). g * 2 ^ 64 + m < x) one s) in
+    sym (ap₂ (λ (x y : ℕ). x + (h * 2 ^ 64 + l) * y) none one ∙ zero-add ((h * 2 ^ 64 + l) * 1) ∙ mul-one (h * 2 ^ 64 + l))
+
+-- ---- multiples of 2^k, cut to 64 bits
+
+powers : (k : ℕ) → k < 64 → 2 ^ (64 - k) * 2 ^ k ≡ 2 ^ 64
+powers k s = sym (pow-add 2 (64 - k) k) ∙ ap (λ (x : ℕ). 2 ^ x) (sub-add-cancel {n = 64} {m = k} (omega arith))
+
+cut : (x k : ℕ) → k < 64 → x * 2 ^ k % 2 ^ 64 ≡ x % 2 ^ (64 - k) * 2 ^ k
+cut x k s =
+    ap (λ (y : ℕ). x * 2 ^ k % y) (sym (powers k s))
+    ∙ mod-mul (x * 2 ^ k) (pow-pos (64 - k)) (pow-pos k)
+    ∙ ap₂ (λ (y z : ℕ). y % 2 ^ (64 - k) * 2 ^ k + z) (mul-div-left x (pow-pos k)) (mul-mod-left x (2 ^ k))
+    ∙ add-zero (x % 2 ^ (64 - k) * 2 ^ k)
+
+-- a number below 2^k beside one
+pub beside-fits : (a x k : ℕ) → k < 64 → a < 2 ^ k → a + x * 2 ^ k % 2 ^ 64 < 2 ^ 64
+beside-fits a x k s h =
+    subst (λ (y : ℕ). a + y < 2 ^ 64) (sym (cut x k s))
+    (subst (λ (y : ℕ). a + x % 2 ^ (64 - k) * 2 ^ k < y) (powers k s)
+    (subst (λ (y : ℕ). y < 2 ^ (64 - k) * 2 ^ k) (add-comm (x % 2 ^ (64 - k) * 2 ^ k) a) (digits-lt (mod-lt x (pow-pos (64 - k))) h)))
+
+-- ---- places 1 to 63
+
+module _ (h l g m p : ℕ) (s : p < 64) (small : g * 2 ^ 64 + m < 2 ^ p) where
+  no-high : g ≡ 0
+  no-high = let top : 2 ^ p < 2 ^ 64 = pow-lt s in omega arith
+
+  low-lt : m < 2 ^ p
+  low-lt = omega arith
+
+  pub low-fits : m + l * 2 ^ p % 2 ^ 64 < 2 ^ 64
+  low-fits = beside-fits m l p s low-lt
+
+  pub joined-low : (h * 2 ^ 64 + l) * 2 ^ p < 2 ^ 128
+      → (h * 2 ^ p % 2 ^ 64 + l / 2 ^ (64 - p)) * 2 ^ 64 + (m + l * 2 ^ p % 2 ^ 64) ≡ g * 2 ^ 64 + m + (h * 2 ^ 64 + l) * 2 ^ p
+  joined-low fit =
+      regroup (h * 2 ^ p % 2 ^ 64 + l / 2 ^ (64 - p)) m (l * 2 ^ p % 2 ^ 64) ∙ ap₂ (λ (x y : ℕ). x + y) (lows g m no-high) (up-halves h l p s fit)
+    where
+      regroup : (x y z : ℕ) → x * 2 ^ 64 + (y + z) ≡ y + (x * 2 ^ 64 + z)
+      regroup x y z = omega arith
+
+      lows : (x y : ℕ) → x ≡ 0 → y ≡ x * 2 ^ 64 + y
+      lows x y e = omega arith
+
+-- ---- places 64 to 127
+
+module _ (h l g m p : ℕ) (many : 64 ≤ p) (s : p < 128) (fit : (h * 2 ^ 64 + l) * 2 ^ p < 2 ^ 128) where
+  high-power : 2 ^ p ≡ 2 ^ (p - 64) * 2 ^ 64
+  high-power = ap (λ (x : ℕ). 2 ^ x) (sym (sub-add-cancel many)) ∙ pow-add 2 (p - 64) 64
+
+  -- the whole number, shifted by the part of p above 64
+  shifted : (h * 2 ^ 64 + l) * 2 ^ (p - 64) < 2 ^ 64
+  shifted =
+      lt-of-mul-lt-mul-right (2 ^ 64)
+      (subst (λ (x : ℕ). x < 2 ^ 64 * 2 ^ 64) (ap (λ (x : ℕ). (h * 2 ^ 64 + l) * x) high-power ∙ sym (mul-assoc (h * 2 ^ 64 + l) (2 ^ (p - 64)) (2 ^ 64))) fit)
+
+  none : h ≡ 0
+  none =
+      let pos : 0 < 2 ^ (p - 64) = pow-pos (p - 64) in
+      let least : (h * 2 ^ 64 + l) * 1 ≤ (h * 2 ^ 64 + l) * 2 ^ (p - 64) = mul-le-mul-left (h * 2 ^ 64 + l) pos in
+      zero-high h l ((h * 2 ^ 64 + l) * 2 ^ (p - 64)) least shifted
+    where
+      zero-high : (x y z : ℕ) → (x * 2 ^ 64 + y) * 1 ≤ z → z < 2 ^ 64 → x ≡ 0
+      zero-high x y z a b = omega arith
+
+  pub only-low : h * 2 ^ 64 + l ≡ l
+  only-low = ap (λ (x : ℕ). x * 2 ^ 64 + l) none ∙ zero-add l
+
+  whole : l * 2 ^ (p - 64) % 2 ^ 64 ≡ l * 2 ^ (p - 64)
+  whole = mod-eq-of-lt (subst (λ (x : ℕ). x * 2 ^ (p - 64) < 2 ^ 64) only-low shifted)
+
+  pub high-fits : g * 2 ^ 64 + m < 2 ^ p → g + l * 2 ^ (p - 64) % 2 ^ 64 < 2 ^ 64
+  high-fits small = beside-fits g l (p - 64) (omega arith) (high-lt g m (2 ^ p) (2 ^ (p - 64)) small high-power)
+    where
+      high-lt : (x y z w : ℕ) → x * 2 ^ 64 + y < z → z ≡ w * 2 ^ 64 → x < w
+      high-lt x y z w a b = omega arith
+
+  pub joined-high : (g + l * 2 ^ (p - 64) % 2 ^ 64) * 2 ^ 64 + m ≡ g * 2 ^ 64 + m + (h * 2 ^ 64 + l) * 2 ^ p
+  joined-high =
+      regroup g (l * 2 ^ (p - 64) % 2 ^ 64) m
+      ∙ ap (λ (x : ℕ). g * 2 ^ 64 + m + x)
+      (ap (λ (x : ℕ). x * 2 ^ 64) whole
+      ∙ mul-assoc l (2 ^ (p - 64)) (2 ^ 64)
+      ∙ ap₂ (λ (x y : ℕ). x * y) (sym only-low) (sym high-power))
+    where
+      regroup : (x y z : ℕ) → (x + y) * 2 ^ 64 + z ≡ x * 2 ^ 64 + z + y * 2 ^ 64
+      regroup x y z = omega arith

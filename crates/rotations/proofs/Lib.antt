@@ -1,0 +1,4 @@
+pub mod Puts
+pub mod OneTurn
+pub mod AllTurns
+pub mod Joining

@@ -1,0 +1,57 @@
+-- The input as it is, across both halves, or in the high half alone.
+-- Assumes nothing.
+use native.Mathlib.Omega.{arith}
+use borrow.Author.Needs.{needs}
+use Rattle.poly.proofs.Shifts.{up-high-fits}
+use Rattle.rotations.proofs.Joining.{joined-first, low-fits, joined-low, high-fits, joined-high}
+use Rattle.rotations.proofs.join_input.Statement.{statement}
+use Rattle.rotations.proofs.join_input.Tie as tie
+
+returns : tie.Need-returns
+returns c = let a = c .before .args in let p = c .before .pre in joined-first (a .input .high) (a .input .low) (a .before .high) (a .before .low) (a .place) (c .if1 .taken) (p .1)
+
+shl-t5 : tie.Need-shl-t5
+shl-t5 c = search needs
+
+add-t6 : tie.Need-add-t6
+add-t6 c = let a = c .before .before .before .before .args in let p = c .before .before .before .before .pre in record { fits = low-fits (a .input .high) (a .input .low) (a .before .high) (a .before .low) (a .place) (omega arith) (p .1) }
+
+shl-t7 : tie.Need-shl-t7
+shl-t7 c = search needs
+
+sub-t8 : tie.Need-sub-t8
+sub-t8 c = search needs
+
+shr-t9 : tie.Need-shr-t9
+shr-t9 c = search needs
+
+add-t10 : tie.Need-add-t10
+add-t10 c = let a = c .before .before .before .before .before .before .args in let p = c .before .before .before .before .before .before .pre in record { fits = up-high-fits (a .input .high) (a .input .low) (a .place) (omega arith) (p .2) }
+
+returns-2 : tie.Need-returns-2
+returns-2 c = let a = c .before .before .before .before .before .before .args in let p = c .before .before .before .before .before .before .pre in joined-low (a .input .high) (a .input .low) (a .before .high) (a .before .low) (a .place) (omega arith) (p .1) (p .2)
+
+shl-t12 : tie.Need-shl-t12
+shl-t12 c = search needs
+
+add-t13 : tie.Need-add-t13
+add-t13 c = let a = c .before .before .before .before .args in let p = c .before .before .before .before .pre in record { fits = high-fits (a .input .high) (a .input .low) (a .before .high) (a .before .low) (a .place) (omega arith) (p .0) (p .2) (p .1) }
+
+returns-3 : tie.Need-returns-3
+returns-3 c = let a = c .before .before .before .before .args in let p = c .before .before .before .before .pre in joined-high (a .input .high) (a .input .low) (a .before .high) (a .before .low) (a .place) (omega arith) (p .0) (p .2)
+
+pub join-input-spec : {M : Type 1} → statement M
+join-input-spec =
+    tie.close
+    (tie.spec
+    returns
+    shl-t5
+    add-t6
+    shl-t7
+    sub-t8
+    shr-t9
+    add-t10
+    returns-2
+    shl-t12
+    add-t13
+    returns-3)

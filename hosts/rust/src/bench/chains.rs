@@ -1,0 +1,139 @@
+//! The listing of paths as one would write it in Rust: the library's method,
+//! with tables of each state's events that are made once, words of 128 bits,
+//! and the standard library's sort. Lengths and weights are bytes, so that the
+//! compiler sees that they are within the tables.
+
+use crate::plain;
+use dohvrin::Event;
+
+/// No chain weighs as much: past every threshold.
+const NEVER: u8 = 255;
+
+/// How many paths there are below d of a right code, of memory v. The words are
+/// in the table by weight and number, zeros after them, and the counts by
+/// weight; the events are as `plain::collect` leaves them. Nothing where a
+/// table is too small.
+pub fn list(
+    generators: &[u64],
+    v: u64,
+    bits: u64,
+    d: u64,
+    events: &mut [Event],
+    paths: &mut [u128],
+    counts: &mut [u64],
+) -> Option<usize> {
+    let n = plain::collect(generators, v, bits, d, events)?;
+    let mut rest = &events[..n];
+    let mut states = Vec::new();
+    while let Some(first) = rest.first() {
+        let same = rest.partition_point(|e| e.state == first.state);
+        states.push(State::new(&rest[..same], bits as u8));
+        rest = &rest[same..];
+    }
+    let mut found = Found { paths, at: 0 };
+    counts.fill(0);
+    for (w, count) in (0..d).zip(counts) {
+        let before = found.at;
+        for state in &states {
+            state.chain(bits as u8, w as u8, 0, 0, &mut found);
+        }
+        found.paths.get_mut(before..found.at)?.sort_unstable();
+        *count = (found.at - before) as u64;
+    }
+    let Found { paths, at } = found;
+    paths[at..].fill(0);
+    Some(at)
+}
+
+/// The path table, and how many words were found.
+struct Found<'a> {
+    paths: &'a mut [u128],
+    at: usize,
+}
+
+impl Found<'_> {
+    fn push(&mut self, word: u128) {
+        if let Some(entry) = self.paths.get_mut(self.at) {
+            *entry = word;
+        }
+        self.at += 1;
+    }
+}
+
+/// The events of one state, and what bounds the chains of them.
+struct State<'a> {
+    bits: u8,
+    events: &'a [Event],
+    /// By length: where its events begin.
+    starts: [usize; 257],
+    /// By length: the least weight of an event.
+    least: [u8; 256],
+    /// By steps: no chain weighs less.
+    fill: [u8; 256],
+}
+
+impl<'a> State<'a> {
+    fn new(events: &'a [Event], bits: u8) -> State<'a> {
+        let mut state = State {
+            bits,
+            events,
+            starts: [events.len(); 257],
+            least: [NEVER; 256],
+            fill: [0; 256],
+        };
+        let mut known = 0;
+        for (at, e) in events.iter().enumerate() {
+            let l = e.length as usize;
+            if known < l {
+                state.starts[known + 1..=l].fill(at);
+                known = l;
+            }
+            state.least[l] = state.least[l].min(e.weight as u8);
+        }
+        for k in 1..=usize::from(bits) {
+            let sums = (1..=k).map(|l| state.least[l].saturating_add(state.fill[k - l]));
+            state.fill[k] = sums.min().unwrap_or(NEVER);
+        }
+        state
+    }
+
+    /// The words of weight `budget` more whose chains begin with these inputs
+    /// and go on for `left` steps; `first` is the first event's length.
+    fn chain(&self, left: u8, budget: u8, word: u128, first: u8, found: &mut Found) {
+        let place = self.bits - left;
+        let mut from = 1;
+        while let Some(l) = self.next_length(left, budget, from) {
+            let first = if place == 0 { l } else { first };
+            let after = self.fill[usize::from(left - l)];
+            for e in &self.events[self.starts[usize::from(l)]..self.starts[usize::from(l) + 1]] {
+                let weight = e.weight as u8;
+                if weight + after > budget {
+                    continue;
+                }
+                let word = word | e.input() << place;
+                if l < left {
+                    self.chain(left - l, budget - weight, word, first, found);
+                } else if weight == budget && word != 0 {
+                    self.turns(word, first, found);
+                }
+            }
+            from = l + 1;
+        }
+    }
+
+    /// The first length from `from` on of which an event may be joined.
+    fn next_length(&self, left: u8, budget: u8, from: u8) -> Option<u8> {
+        (from..=left).find(|&l| {
+            let after = self.fill[usize::from(left - l)];
+            self.least[usize::from(l)].saturating_add(after) <= budget
+        })
+    }
+
+    /// The word begun 0 to `first` - 1 steps later.
+    fn turns(&self, mut word: u128, first: u8, found: &mut Found) {
+        for _ in 0..first {
+            found.push(word);
+            word = word >> 1 | (word & 1) << (self.bits - 1);
+        }
+    }
+}

@@ -1,0 +1,283 @@
+//! The collection of error events, with its lent table and work area.
+//!
+//! Whole tables are compared, and what stands around them. Before each call
+//! every lent entry and number, and some on either side, have values of their
+//! own, so that one that was left, moved or changed is seen.
+
+use crate::codes::{self, Input};
+use crate::random::Random;
+use crate::tally::Tally;
+use crate::{number, size};
+use dohvrin::raw::{self, Answer};
+use dohvrin::{Event, WORK};
+use dso_ref::events;
+
+/// The entries on either side of a table, and the numbers around a work area.
+const GUARDS: usize = 9;
+/// Entries of a table whose events the second tool lists for any order.
+const ENTRIES: usize = 3000;
+/// Steps that the second tool takes without a cut, at most: in a small order,
+/// and in a large one.
+const STEPS: usize = 1 << 17;
+const MANY_STEPS: usize = 1 << 23;
+
+/// One call: the code, the threshold, and the sizes of what is lent.
+#[derive(Clone, Copy, Debug)]
+struct Call {
+    input: Input,
+    d: u64,
+    entries: usize,
+    work: usize,
+}
+
+/// What the second tool says: the events to be listed, or a refusal.
+type Expected<'a> = Result<&'a [dso_ref::Event], u64>;
+
+/// Any inputs, right and damaged, of any length.
+pub fn collect(inputs: u64) -> Tally {
+    let mut random = Random::new(0xC011EC7);
+    let mut tally = Tally::new("collect", &[3, 4, 5, 7, 8, 9, 10, 13]);
+    for _ in 0..inputs {
+        let mut call = draw(&mut random);
+        let code = call.input.code();
+        let all = events::collect(code, size(call.d), ENTRIES, call.work).map_err(number);
+        call.entries = draw_entries(&mut random, all.as_ref().map_or(ENTRIES, Vec::len));
+        let plain = events::collect(code, size(call.d), call.entries, call.work).map_err(number);
+        compare(&mut tally, &call, plain.as_deref().map_err(|no| *no));
+    }
+    tally
+}
+
+/// Small orders, whose events the second tool finds without a cut, each with
+/// tables exactly full, one short, empty, larger and far larger.
+pub fn small_tables(orders: u64) -> Tally {
+    let mut random = Random::new(0x5A11);
+    let mut tally = Tally::new("small event tables", &[13]);
+    let mut done = 0;
+    while done < orders {
+        let call = draw_small(&mut random);
+        let code = call.input.code();
+        if let Some(listed) = events::walked(code, size(call.d), STEPS) {
+            let more = listed.len() + 1 + random.index(40);
+            let tables = [listed.len(), listed.len() - 1, 0, more, 3 * more + 1000];
+            compare_tables(&mut tally, &call, &listed, &tables);
+            done += 1;
+        }
+    }
+    tally
+}
+
+/// The large orders, whose numbers of events are stored here, each with tables
+/// exactly full and one short.
+pub fn large_tables(_: u64) -> Tally {
+    let mut tally = Tally::new("large event tables", &[13]);
+    large(&mut tally, &[0o13, 0o17], 3, 70, 18, 15_852);
+    large(&mut tally, &[0o133, 0o171], 6, 70, 14, 6_903);
+    large(&mut tally, &[0o133, 0o171, 0o165], 6, 64, 24, 19_301);
+    // 1.5 billion walks without a cut: this list is the second tool's own cut one.
+    large(&mut tally, &[0o561, 0o753], 8, 76, 21, 5_079_947);
+    tally
+}
+
+/// The second tool's list must have the stored number of events, each of them
+/// walked once more, once and in order.
+fn large(tally: &mut Tally, generators: &[u64], v: u64, bits: u64, d: u64, events: usize) {
+    let mut given = [0; 8];
+    given[..generators.len()].copy_from_slice(generators);
+    let call = Call {
+        input: Input {
+            generators: given,
+            count: generators.len(),
+            v,
+            bits,
+            word: 0,
+        },
+        d,
+        entries: 0,
+        work: WORK,
+    };
+    let code = call.input.code();
+    let listed = events::walked(code, size(d), MANY_STEPS)
+        .or_else(|| events::collect(code, size(d), events, WORK).ok())
+        .unwrap_or_default();
+    let right = listed.len() == events && events::are_listed(code, size(d), &listed);
+    assert!(right, "{call:?}: not the {events} events of the order");
+    compare_tables(tally, &call, &listed, &[events, events - 1]);
+}
+
+/// One call for each size of a table.
+fn compare_tables(tally: &mut Tally, call: &Call, listed: &[dso_ref::Event], tables: &[usize]) {
+    for &entries in tables {
+        let expected = if listed.len() <= entries {
+            Ok(listed)
+        } else {
+            Err(13)
+        };
+        compare(tally, &Call { entries, ..*call }, expected);
+    }
+}
+
+/// The call as C sees it, then the safe function.
+fn compare(tally: &mut Tally, call: &Call, expected: Expected) {
+    let refusal = expected.err().unwrap_or(0);
+    let value = expected.map_or(0, <[_]>::len);
+    let answer = Answer {
+        refusal,
+        value: value as u64,
+        ..Answer::default()
+    };
+    let (raw, raw_left) = Lent::new(call).raw(call, expected);
+    let (safe, safe_left) = Lent::new(call).safe(call, expected);
+    let plain = expected.map(<[_]>::len);
+    let same = raw == answer && safe == plain && raw_left && safe_left;
+    tally.count(refusal, same, || {
+        format!(
+            "{call:?}: library {raw:?} {safe:?}, second tool {answer:?}, \
+             memory as it should be: {raw_left} {safe_left}"
+        )
+    });
+}
+
+/// A table and a work area among guards.
+struct Lent {
+    table: Vec<Event>,
+    work: Vec<u64>,
+}
+
+impl Lent {
+    fn new(call: &Call) -> Lent {
+        Lent {
+            table: (0..call.entries + 2 * GUARDS).map(any_event).collect(),
+            work: (0..call.work + 2 * GUARDS).map(any_number).collect(),
+        }
+    }
+
+    fn raw(mut self, call: &Call, expected: Expected) -> (Answer, bool) {
+        let i = &call.input;
+        let (start, count) = (i.generators.as_ptr(), i.count);
+        // SAFETY: there are guards behind both, so that pointers and sizes are
+        // within them, `count` is at most the array's size, and the three are
+        // apart from each other.
+        let answer = unsafe {
+            let table = self.table.as_mut_ptr().add(GUARDS);
+            let work = self.work.as_mut_ptr().add(GUARDS);
+            raw::dohvrin_collect(
+                start,
+                count,
+                i.v,
+                i.bits,
+                call.d,
+                table,
+                call.entries,
+                work,
+                call.work,
+            )
+        };
+        (answer, self.is_left(call, expected))
+    }
+
+    fn safe(mut self, call: &Call, expected: Expected) -> (Result<usize, u64>, bool) {
+        let i = &call.input;
+        let table = &mut self.table[GUARDS..GUARDS + call.entries];
+        let work = &mut self.work[GUARDS..GUARDS + call.work];
+        let answer = dohvrin::collect(i.given(), i.v, i.bits, call.d, table, work);
+        (answer.map_err(|no| no.0), self.is_left(call, expected))
+    }
+
+    /// Whether the call left what it should: the events and zeros, zeros, or
+    /// nothing changed; and in any case the guards.
+    fn is_left(&self, call: &Call, expected: Expected) -> bool {
+        let listed = expected.unwrap_or(&[]);
+        let changed = matches!(expected, Ok(_) | Err(13));
+        let table = |at: usize| match at.checked_sub(GUARDS) {
+            Some(entry) if changed && entry < call.entries => {
+                listed.get(entry).map_or(Event::default(), entry_of)
+            }
+            _ => any_event(at),
+        };
+        let work = |at: usize| match at.checked_sub(GUARDS) {
+            Some(entry) if changed && entry < call.work => 0,
+            _ => any_number(at),
+        };
+        (0..)
+            .zip(&self.table)
+            .all(|(at, entry)| *entry == table(at))
+            && (0..)
+                .zip(&self.work)
+                .all(|(at, number)| *number == work(at))
+    }
+}
+
+/// A number, not 0, that no other place has.
+pub fn any_number(at: usize) -> u64 {
+    (at as u64 + 1).wrapping_mul(0x9E37_79B9_7F4A_7C15)
+}
+
+pub fn any_event(at: usize) -> Event {
+    let field = |k| any_number(5 * at + k);
+    Event {
+        state: field(0),
+        length: field(1),
+        weight: field(2),
+        low: field(3),
+        high: field(4),
+    }
+}
+
+/// The second tool's event as the table has it.
+pub fn entry_of(event: &dso_ref::Event) -> Event {
+    let (low, high) = dohvrin::halves(event.input);
+    Event {
+        state: event.state as u64,
+        length: event.length as u64,
+        weight: u64::from(event.weight),
+        low,
+        high,
+    }
+}
+
+/// Code, threshold and work area right or damaged; the table comes later.
+fn draw(random: &mut Random) -> Call {
+    let d = match random.within(0, 15) {
+        0 => random.pick(&[0, 65, 66, 128]),
+        1 => random.huge(5),
+        2..=4 => random.within(1, 64),
+        _ => random.within(1, 14),
+    };
+    let work = match random.within(0, 15) {
+        0 => random.index(WORK),
+        1 => WORK - 1,
+        2..=12 => WORK,
+        _ => WORK + random.index(1000),
+    };
+    Call {
+        input: codes::draw(random),
+        d,
+        entries: 0,
+        work,
+    }
+}
+
+/// None, one short, exact, larger, or any.
+fn draw_entries(random: &mut Random, exact: usize) -> usize {
+    match random.within(0, 9) {
+        0 => 0,
+        1 | 2 => exact.saturating_sub(1),
+        3..=5 => exact,
+        6..=8 => exact + random.index(100),
+        _ => random.index(ENTRIES),
+    }
+}
+
+/// A right code of at most 24 steps.
+fn draw_small(random: &mut Random) -> Call {
+    let mut input = codes::right(random);
+    input.bits = random.within(input.v, 24);
+    let most = random.pick(&[12, 64]);
+    Call {
+        input,
+        d: random.within(1, most),
+        entries: 0,
+        work: WORK + random.index(100),
+    }
+}
