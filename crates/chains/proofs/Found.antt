@@ -5,22 +5,22 @@
 use Prim.Native.Nat.{ℕ, zero, suc, _+_, _-_, _*_, _/_, _%_, _^_, _≤_, _<_}
 use native.Mathlib.Nat.{add-zero}
 use native.Mathlib.Omega.{arith}
-use mathlib.Core.Path.{_≡_, refl, sym, ap, ap₂, _∙_, subst}
+use mathlib.Core.Path.{_≡_, refl, sym, ap, _∙_, subst}
 use mathlib.Core.Bool.{Bool, true, false, not, cond, _&&_}
 use mathlib.Core.Logic.{_⊎_, inl, inr, ⊎-elim}
-use mathlib.Core.List.{List, [], _∷_, _++_, map, flatMap, List·Memᴰ, Memᴰ·of-map}
+use mathlib.Core.List.{List, [], _∷_, _++_, flatMap, List·Memᴰ, Memᴰ·of-map}
 use lib.Dec.{T, leb, eqb, leb→le, eqb→eq, not-T, T-not, nleb→lt, lit<}
 use lib.ListN.{length, getD}
 use Rattle.lists.specs.Lists.{upFrom}
 use Rattle.lists.proofs.Member.{upFrom-bounds}
 use Rattle.lists.proofs.Tests.{T-and, passes-or-fails}
-use Rattle.lists.proofs.Blocks.{flatMap-none, flatMap-cong-on, flatMap-map}
+use Rattle.lists.proofs.Blocks.{flatMap-cong-on, flatMap-map}
 use Rattle.lists.proofs.Choices.{cond-true, cond-false, eqb-passes}
 use Rattle.events.specs.declared.Event.{Event}
 use Rattle.events.specs.Events.{ErrorEvent, noEvent}
 use Rattle.paths.specs.Chains.{turns, firstOr, fitsIn, joining, joined}
 use Rattle.paths.proofs.Pruned.{joined-drops}
-use Rattle.bounds.specs.Tables.{startAt, endAt, bitsAt, leastAt, fillAt, decided, Ready}
+use Rattle.bounds.specs.Tables.{startAt, endAt, bitsAt, leastAt, fillAt, decided}
 use Rattle.chains.specs.Chaining.{wordOf, errorEvent, atHand, extended, found, foundBy, Joinable, Joins, Node}
 
 -- ---- the two halves of a number

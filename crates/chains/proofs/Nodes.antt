@@ -1,9 +1,9 @@
 -- A chain begun stays small as events are joined to it: its inputs have as many bits as it has steps.
 -- Assumes nothing.
-use Prim.Native.Nat.{ℕ, zero, suc, _+_, _-_, _*_, _/_, _%_, _^_, _≤_, _<_}
+use Prim.Native.Nat.{ℕ, zero, suc, _+_, _-_, _*_, _^_, _≤_, _<_}
 use native.Mathlib.Nat.{mul-le-mul-right, suc-mul, lt-of-lt-of-le}
 use native.Mathlib.Omega.{arith}
-use mathlib.Core.Path.{_≡_, refl, sym, ap, _∙_, subst}
+use mathlib.Core.Path.{_≡_, sym, ap, subst}
 use lib.Pow.{pow-add, pow-mono}
 use Rattle.events.specs.declared.Event.{Event}
 use Rattle.paths.specs.Chains.{firstOr}

@@ -2,13 +2,13 @@
 -- Assumes nothing.
 use Prim.Native.Nat.{ℕ, zero, suc, _≤_, _<_, _^_}
 use native.Mathlib.Omega.{arith}
-use mathlib.Core.Path.{_≡_, refl, sym, ap, _∙_, subst}
-use mathlib.Core.Bool.{Bool, true, false, cond, _&&_}
+use mathlib.Core.Path.{_≡_, refl, sym, ap, _∙_}
+use mathlib.Core.Bool.{Bool, true, false, cond}
 use mathlib.Core.List.{List, [], _∷_, _++_}
 use lib.Dec.{T, leb, ltb, le→leb, leb→le, ltb→lt, not-T, lit<}
 use lib.ListN.{length}
 use borrow.Author.Tests.{leb-true}
-use Rattle.lists.proofs.Tests.{true-of-T, false-of-T-not}
+use Rattle.lists.proofs.Tests.{true-of-T, false-of-T-not, both}
 use Rattle.order.specs.Questions.{Question, firstNo, from-to, threshold, room, workSize, shapeQuestions, generatorQuestions}
 use Rattle.order.proofs.FirstNo.{orElse, firstNo-none, firstNo-yes, firstNo-no, firstNo-++, yes-of-firstNo}
 use Rattle.events.specs.Calls.{collectQuestions}
@@ -17,10 +17,6 @@ use Rattle.events.specs.Calls.{collectQuestions}
 abbrev NumbersBelow : List Question → Type 0
 NumbersBelow [] = Unit {0}
 NumbersBelow (q ∷ qs) = T (ltb (q .0) (2 ^ 64)) × NumbersBelow qs
-
-both : (a b : Bool) → (a && b) ≡ true → (a ≡ true) × (b ≡ true)
-both true b e = (refl, e)
-both false b e = absurd (subst T (sym e) tt)
 
 range : (low high x : ℕ) → from-to low high x ≡ true → (low ≤ x) × (x ≤ high)
 unfolding from-to
@@ -43,7 +39,7 @@ shaped n v N e =
     let five = range v 128 N (yes .1 .1 .0) in
     record { few = three .1; some-memory = four .0; small-memory = four .1; long-enough = five .0; at-most-128 = five .1 }
 
-or-first : (x y : ℕ) → (x ≡ 0 → ⊥) → x ≡ orElse x y
+pub or-first : (x y : ℕ) → (x ≡ 0 → ⊥) → x ≡ orElse x y
 or-first zero y n = absurd (n refl)
 or-first (suc x) y n = refl
 

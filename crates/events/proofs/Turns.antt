@@ -12,6 +12,7 @@ use lib.Arith.{digits-div, digits-mod}
 use lib.ListN.{length, getD, set, length-set}
 use lib.Seq.{getD-set-other, getD-set-same}
 use Rattle.lists.specs.Lists.{upFrom}
+use Rattle.lists.proofs.Lengths.{upFrom-append}
 use Rattle.lists.proofs.Blocks.{flatMap-append}
 use Rattle.code.specs.Trellis.{stepWeight}
 use Rattle.order.specs.Order.{Order}
@@ -130,24 +131,6 @@ prepared-ready gs v d work h =
     }
 
 -- ---- all turns
-
-upFrom-append : (x n m : ℕ) → upFrom x (n + m) ≡ upFrom x n ++ upFrom (x + n) m
-unfolding upFrom
-upFrom-append x zero m = ap₂ upFrom (no-more x) (no-first m)
-  where
-    no-more : (y : ℕ) → y ≡ y + 0
-    no-more y = omega arith
-
-    no-first : (y : ℕ) → 0 + y ≡ y
-    no-first y = omega arith
-upFrom-append x (suc n) m =
-    ap (upFrom x) (one-first n m) ∙ ap (λ (l : List ℕ). x ∷ l) (upFrom-append (suc x) n m ∙ ap (λ (y : ℕ). upFrom (suc x) n ++ upFrom y m) (one-on x n))
-  where
-    one-first : (a b : ℕ) → suc a + b ≡ suc (a + b)
-    one-first a b = omega arith
-
-    one-on : (a b : ℕ) → suc a + b ≡ a + suc b
-    one-on a b = omega arith
 
 module _ {A : Type 0} (N : ℕ) (f : ℕ → ℕ → List A) where
   -- the turns of one state

@@ -1,14 +1,14 @@
 -- What the listing answers and leaves, at each of its ends: a question that says no, too many events, too many paths, or all listed.
 -- Assumes nothing.
-use Prim.Native.Nat.{ℕ, zero, suc, _+_, _-_, _/_, _^_, _≤_, _<_}
+use Prim.Native.Nat.{ℕ, zero, suc, _/_, _≤_, _<_}
 use native.Mathlib.Omega.{arith}
 use mathlib.Core.Path.{_≡_, refl, sym, ap, ap₂, _∙_, subst}
-use mathlib.Core.Logic.{_⊎_, inl, inr}
+use mathlib.Core.Logic.{inl, inr}
 use mathlib.Core.Bool.{Bool, cond}
-use mathlib.Core.List.{List, [], _∷_, flatMap}
+use mathlib.Core.List.{List, flatMap}
 use lib.Dec.{leb}
 use lib.ListN.{length, replicate}
-use borrow.Author.Tests.{leb-true, le-leb, lt-leb}
+use borrow.Author.Tests.{le-leb, lt-leb}
 use Rattle.lists.specs.Lists.{padded}
 use Rattle.poly.specs.Word.{halves}
 use Rattle.order.specs.Order.{Order}
@@ -22,12 +22,12 @@ use Rattle.events.specs.declared.Collected.the-variants as C
 use Rattle.events.specs.Events.{events, noEvent, eventTable}
 use Rattle.events.specs.Calls as E
 use Rattle.events.specs.Calls.{orderOf, collectQuestions, collectedAs, collectCall, listedOr13, unlessRefused}
-use Rattle.events.proofs.Asked.{Accepted, accepted}
+use Rattle.events.proofs.Asked.{accepted}
 use Rattle.bounds.proofs.Placed.{lt-or-ge}
 use Rattle.paths.specs.Paths.{paths, plainCounts, pathRoom, pathTable}
 use Rattle.listing.specs.Calls.{Answer, listed, refused, Tables, listQuestions, cleared, allCleared, filled, counted, asked, listCall}
 use Rattle.listing.specs.Steps.{refusalOf, eventsOf}
-use Rattle.listing.proofs.Weights.{wordsTo, countsTo, all-words, all-counts, Held, Full}
+use Rattle.listing.proofs.Weights.{all-words, all-counts, Held, Full}
 
 -- what the questions let the listing assume of its order
 pub record Ordered (o : Order) : Type 0 where

@@ -10,12 +10,8 @@ use borrow.Author.Tests.{leb-true, le-leb, lt-leb}
 use Rattle.order.specs.Questions.{firstNo, room, shapeQuestions, generatorQuestions}
 use Rattle.order.proofs.FirstNo.{orElse, firstNo-none, firstNo-yes, firstNo-no, firstNo-++, yes-of-firstNo}
 use Rattle.events.specs.Calls.{collectQuestions}
-use Rattle.events.proofs.Asked.{why-small}
+use Rattle.events.proofs.Asked.{or-first, why-small}
 use Rattle.listing.specs.Calls.{listQuestions}
-
-or-first : (x y : ℕ) → (x ≡ 0 → ⊥) → x ≡ orElse x y
-or-first zero y n = absurd (n refl)
-or-first (suc x) y n = refl
 
 or-zero : (x y : ℕ) → orElse x y ≡ 0 → (x ≡ 0) × (y ≡ 0)
 or-zero zero y e = (refl, e)

@@ -1,25 +1,26 @@
 -- Weight by weight: what stands in the path table and in the counts before weight w (`Held`), what one weight adds, and what has been found once the
 -- table is known to be too small.
 -- Assumes nothing.
-use Prim.Native.Nat.{ℕ, zero, suc, _+_, _-_, _*_, _/_, _^_, _≤_, _<_}
+use Prim.Native.Nat.{ℕ, zero, suc, _+_, _-_, _*_, _/_, _≤_, _<_}
 use native.Mathlib.Nat.{add-zero, zero-add}
 use native.Mathlib.Omega.{arith}
 use mathlib.Core.Path.{_≡_, refl, sym, ap, ap₂, _∙_, subst}
 use mathlib.Core.Logic.{_⊎_, inl, inr}
-use mathlib.Core.List.{List, [], _∷_, _++_, map, flatMap, append-nil, append-assoc, List·Memᴰ}
-use lib.ListN.{length, set, replicate, length-replicate, length-append, length-map}
+use mathlib.Core.List.{List, [], _∷_, _++_, map, flatMap, append-assoc}
+use lib.ListN.{length, set, replicate, length-append, length-map}
 use Rattle.lists.specs.Lists.{upFrom, padded}
-use Rattle.lists.proofs.Lengths.{upFrom-last, length-upFrom, length-padded, upFrom-append}
+use Rattle.lists.proofs.Lengths.{upFrom-last, length-upFrom, length-padded}
 use Rattle.lists.proofs.Blocks.{flatMap-one, flatMap-append}
 use Rattle.poly.specs.Word.{halves}
+use Rattle.poly.proofs.Halves.{length-halves}
 use Rattle.code.proofs.Steps.{Fit}
 use Rattle.order.specs.Order.{Order}
-use Rattle.paths.specs.Paths.{wordsOfWeight, weights, paths, plainCounts, pathRoom, pathTable}
+use Rattle.paths.specs.Paths.{wordsOfWeight, weights, paths, plainCounts, pathRoom}
 use Rattle.paths.specs.Chains.{chainWords}
 use Rattle.paths.proofs.Listed.{plain-count-is-part}
 use Rattle.paths.proofs.Words.{chainWords-distinct, of-chainWords, sorted-chainWords, length-chainWords}
 use Rattle.rotations.specs.Put.{puts}
-use Rattle.rotations.proofs.Puts.{length-halves, length-puts, puts-listed, puts-too-many}
+use Rattle.rotations.proofs.Puts.{length-puts, puts-listed, puts-too-many}
 use Rattle.bounds.proofs.Placed.{lt-or-ge}
 use Rattle.sort.specs.Sort.{sorted, sortedPart}
 use Rattle.sort.specs.Steps.{Narrow}

@@ -5,7 +5,7 @@ use mathlib.Core.Path.{_≡_, refl, subst}
 use mathlib.Core.Bool.{Bool, true, false, not, cond}
 use mathlib.Core.Logic.{_≢_, _⊎_, inl, inr}
 use mathlib.Core.List.{List, [], flatMap, List·Memᴰ, List·Memᴰ·not-nil}
-use lib.Dec.{T, not-T, eqb, eqb→eq, eqb-refl}
+use lib.Dec.{T, T-not, not-T, eqb, eqb→eq, eqb-refl}
 use Rattle.lists.proofs.Sorted.{Sorted}
 
 pub eqb-passes : (m n : ℕ) → m ≡ n → T (eqb m n)
@@ -13,6 +13,10 @@ eqb-passes m n e = subst (λ (x : ℕ). T (eqb m x)) e (eqb-refl m)
 
 pub eqb-fails : (m n : ℕ) → m ≢ n → T (not (eqb m n))
 eqb-fails m n h = not-T (eqb m n) (λ t. h (eqb→eq m n t))
+
+-- what a test of equality that failed says
+pub eqb-differs : (m n : ℕ) → T (not (eqb m n)) → m ≢ n
+eqb-differs m n t e = T-not (eqb m n) t (eqb-passes m n e)
 
 module _ {A : Type 0} where
   pub cond-true : (b : Bool) (x y : A) → T b → cond b x y ≡ x

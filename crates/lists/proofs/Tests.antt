@@ -38,3 +38,7 @@ and-no a b e = sym (ap (λ (x : Bool). x && b) e)
 pub both : (a b : Bool) → (a && b) ≡ true → (a ≡ true) × (b ≡ true)
 both true b e = (refl, e)
 both false b e = absurd (subst T (sym e) tt)
+
+pub T-not-not : (a : Bool) → T (not (not a)) → T a
+T-not-not true t = tt
+T-not-not false t = absurd t

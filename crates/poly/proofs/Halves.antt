@@ -1,15 +1,18 @@
--- Laws of a number in two halves of 64 bits, h * 2^64 + l: its bits, its ones, its order, and sums.
+-- Laws of a number in two halves of 64 bits, h * 2^64 + l: its bits, its ones, its order, and sums; and of words in a table.
 -- Assumes nothing.
-use mathlib.Core.Path.{_≡_, refl, sym, ap, ap₂, _∙_, subst}
-use Prim.Native.Nat.{ℕ, zero, suc, _+_, _-_, _*_, _/_, _%_, _^_, _≤_, _<_}
-use native.Mathlib.Nat.{add-comm, add-sub-of-le, div-eq-of-lt, div-div-eq-div-mul, lt-of-lt-of-le, mul-le-mul-right, add-le-add}
+use mathlib.Core.Path.{_≡_, refl, sym, ap, _∙_}
+use Prim.Native.Nat.{ℕ, _+_, _-_, _*_, _/_, _%_, _^_, _≤_, _<_}
+use native.Mathlib.Nat.{add-comm, add-sub-of-le, div-eq-of-lt, div-div-eq-div-mul, lt-of-lt-of-le}
 use native.Mathlib.Omega.{arith}
 use native.Mathlib.Decide.{decLt}
 use borrow.Author.Tests.{lt-ltb, le-ltb}
-use lib.Dec.{ltb, lit≤}
+use lib.Dec.{ltb}
+use mathlib.Core.List.{List, [], _∷_, flatMap}
+use lib.ListN.{length}
 use lib.Count.{ones, ones-cat}
 use lib.Pow.{pow-add, pow-mono, high}
-use Rattle.poly.specs.Poly.{bit, _⊕_}
+use Rattle.poly.specs.Poly.{bit}
+use Rattle.poly.specs.Word.{halves}
 use Rattle.poly.proofs.Bits.{bit-low}
 
 pub bit-of-low : (i h l : ℕ) → i < 64 → l / 2 ^ i % 2 ≡ bit i (h * 2 ^ 64 + l)
@@ -53,3 +56,10 @@ less-same-high g h l m e = ltb-cong l m (g * 2 ^ 64 + l) (h * 2 ^ 64 + m) (λ p.
 pub less-other-high : (g h l m : ℕ) → l < 2 ^ 64 → m < 2 ^ 64 → (g ≡ h → ⊥) → ltb g h ≡ ltb (g * 2 ^ 64 + l) (h * 2 ^ 64 + m)
 less-other-high g h l m p q n =
     ltb-cong g h (g * 2 ^ 64 + l) (h * 2 ^ 64 + m) (λ r. omega arith) (λ r. omega arith)
+
+-- ---- words in a table, two numbers a word
+
+pub length-halves : (us : List ℕ) → length (flatMap halves us) ≡ 2 * length us
+unfolding flatMap halves
+length-halves [] = refl
+length-halves (u ∷ us) = let r = length-halves us in omega arith

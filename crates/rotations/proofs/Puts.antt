@@ -18,6 +18,7 @@ use Rattle.lists.proofs.Choices.{cond-true, cond-false}
 use Rattle.lists.proofs.Lengths.{length-padded}
 use Rattle.lists.proofs.Stores.{sets-append, sets-cleared}
 use Rattle.poly.specs.Word.{halves}
+use Rattle.poly.proofs.Halves.{length-halves}
 use Rattle.paths.specs.Paths.{pathRoom}
 use Rattle.rotations.specs.Put.{stored, put, puts}
 
@@ -117,11 +118,6 @@ puts-past (u ∷ us) t =
     further x = omega arith
 
 -- ---- a table of zeros with some words in front
-
-pub length-halves : (ws : List ℕ) → length (flatMap halves ws) ≡ 2 * length ws
-unfolding flatMap halves
-length-halves [] = refl
-length-halves (w ∷ ws) = let r = length-halves ws in omega arith
 
 -- what so many words take is in the table
 room-enough : (size n : ℕ) → n ≤ pathRoom size → 2 * n ≤ size

@@ -1,7 +1,7 @@
 -- `chains::event_at` meets its contract: a walk of its MIR, by hand. The place of `events[k]` is 40 · i past the slice's pointer, and the whole struct is read there.
 -- The code has no check of the bound: it is the contract's to ask.
 -- Assumes nothing.
-use mathlib.Core.Path.{_≡_, refl, sym}
+use mathlib.Core.Path.{refl, sym}
 use Prim.Native.Nat.{ℕ, _<_, _^_, _*_}
 use native.Mathlib.Omega.{arith}
 use mathlib.Core.List.{List, [], _∷_}

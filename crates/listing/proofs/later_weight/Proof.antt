@@ -1,7 +1,6 @@
 -- One weight more, or the last.
 -- Assumes nothing.
 use borrow.Author.Needs.{needs}
-use native.Mathlib.Omega.{arith}
 use Rattle.listing.proofs.Settled.{later-none, later-next}
 use Rattle.listing.proofs.later_weight.Statement.{statement}
 use Rattle.listing.proofs.later_weight.Tie as tie

@@ -1,7 +1,6 @@
 -- Sorted and counted where the table took the words, or left alone.
 -- Assumes nothing.
 use borrow.Author.Needs.{needs}
-use native.Mathlib.Omega.{arith}
 use mathlib.Core.Path.{_∙_}
 use Rattle.listing.proofs.Settled.{settled-full, settled-sorted}
 use Rattle.listing.proofs.settle.Statement.{statement}
