@@ -27,28 +27,49 @@
   turns a message of K = N - m bits into a word of N bits: the message stands
   in the upper K bits, its remainder in the lower m.
 
+  The best polynomial of degree m is the one under which the fewest paths pass
+  the check unseen: of two, the one with fewer undetected paths at the lowest
+  weight where they differ. Its row is the order, how many events and paths
+  there are, both counts of every weight below d, and the polynomial.
+
   A program
   ---------
-      #include <inttypes.h>
       #include <stdio.h>
       #include "dohvrin.h"
 
-      int main(void) {
-          const uint64_t generators[2] = {013, 017};  // octal, as 0 leads in C
-          struct dohvrin_answer weight = dohvrin_weigh(generators, 2, 3, 70, 1, 0);
-          struct dohvrin_answer word = dohvrin_append(70, 6, 0x43, 5, 0);
+      static struct dohvrin_event events[512];
+      static uint64_t paths[2 * 2048], plain[64], undetected[64], work[DOHVRIN_WORK];
+      static uint8_t text[DOHVRIN_TEXT];
 
-          if (weight.refusal != 0 || word.refusal != 0)
-              return 1;
-          printf("word 1 weighs %" PRIu64 "\n", weight.value);
-          printf("message 5 becomes word 0x%" PRIx64 "\n", word.low);
+      int main(void) {
+          const uint64_t generators[2] = {01, 03};  // octal, as 0 leads in C
+          struct dohvrin_answer written;
+          struct dohvrin_row row = dohvrin_search(generators, 2, 1, 4, 2, 6,
+                                                  events, 512, paths, 2 * 2048, plain, 64,
+                                                  undetected, 64, work, DOHVRIN_WORK);
+
+          if (row.refusal != 0)
+              written = dohvrin_refusal_text(row.refusal, row.left, text, DOHVRIN_TEXT);
+          else
+              written = dohvrin_row_text(generators, 2, 1, 4, 2, 6, row.events, row.paths,
+                                         row.polynomial, plain, 64, undetected, 64,
+                                         text, DOHVRIN_TEXT);
+          fwrite(text, 1, written.value, stdout);
           return 0;
       }
 
   It prints
   ---------
-      word 1 weighs 7
-      message 5 becomes word 0x14f
+      ORDER 2 1 4 2 6 1 3
+      EVENTS 5
+      PATHS 13
+      A 0 0 0
+      A 1 0 0
+      A 2 0 0
+      A 3 4 0
+      A 4 5 1
+      A 5 4 0
+      CRC 0x5
 
   Refusals
   --------
@@ -56,7 +77,7 @@
   takes, in the order of their numbers, and the first no is the refusal; 0
   says that there was none. A refused call has no other result: the rest of
   its answer is 0, and what was lent to it is as it was; after 13 and 14, it
-  is 0.
+  is 0. Only 15 says more, and leaves more: see dohvrin_search.
 
       no.  question                                                 asked by
        1   Are there 2 bytes, and does the length in them equal
@@ -64,33 +85,45 @@
        2   Is there a version byte, and is it 1?                    read_order
        3   Are there 2 to 4 generators? (In a record: is n there    weigh encode
            and from 2 to 4, and is the length 6 + 2n?)              collect list
+                                                                    search count
+                                                                    row_text
                                                                     read_order
        4   Is v from 1 to 8?                                        weigh encode
                                                                     collect list
+                                                                    search count
                                                                     read_order
-       5   Is N from v (from 1 where a call takes no v) to 128?     all but part
+       5   Is N from v (from 1 where a call takes no v) to 128?     as 4, append
+                                                                    strip test
        6   Is m from 1 to 12 and below N?                           append strip
-                                                                    test read_order
+                                                                    test search
+                                                                    count
+                                                                    read_order
        7   Is d from 1 to 64?                                       collect list
+                                                                    search count
+                                                                    row_text
                                                                     read_order
-       8   Is every generator nonzero and below 2^(v+1)?            weigh encode
-                                                                    collect list
-                                                                    read_order
-       9   Has some generator bit v, and some generator (the same   weigh encode
-           one or another) bit 0?                                   collect list
-                                                                    read_order
+       8   Is every generator nonzero and below 2^(v+1)?            as 4
+       9   Has some generator bit v, and some generator (the same
+           one or another) bit 0?                                   as 4
       10   Has the output at least n times N bytes?                 encode
            Has the work area at least 8,192 numbers?                collect list
-           Have the counts at least d entries?                      list
+                                                                    search count
+           Has each list of counts at least d entries?              list search
+                                                                    count row_text
+           Has the text at least 4,096 bytes?                       row_text
+                                                                    refusal_text
            Is there a count of the weight, and has the table the
            paths of all weights up to it?                           part
       11   Has the polynomial degree m and constant term 1?         append strip
-                                                                    test
+                                                                    test count
       12   Is the word below 2^N, the message below 2^K?            append strip
                                                                     test weigh
                                                                     encode
       13   Are there at most as many events as entries?             collect list
-      14   Are there at most as many paths as pairs of numbers?     list
+                                                                    search count
+      14   Are there at most as many paths as pairs of numbers?     list search
+                                                                    count
+      15   Is one polynomial better than all others?                search
 
   What the library counts on
   --------------------------
@@ -102,8 +135,8 @@
   written.
 
   The library keeps nothing between calls, allocates nothing, and needs
-  nothing of the C library but memset; calls may run at the same time in
-  several threads. It is for x86-64 with the System V calling convention
+  nothing of the C library but memset and memcpy; calls may run at the same
+  time in several threads. It is for x86-64 with the System V calling convention
   (Linux): cc program.c libdohvrin.a. hosts/README.md says how to build it.
 */
 #ifndef DOHVRIN_H
@@ -151,6 +184,15 @@ struct dohvrin_listing {
     uint64_t paths;   /* how many paths are in the path table */
 };
 
+/* What a search answers. */
+struct dohvrin_row {
+    uint64_t refusal;    /* the number of the question that said no, or 0 */
+    uint64_t events;     /* how many events are in the event table */
+    uint64_t paths;      /* how many paths are in the path table */
+    uint64_t polynomial; /* the best polynomial */
+    uint64_t left;       /* after refusal 15: how many share the best counts */
+};
+
 /* Where the paths of one weight stand in a path table. */
 struct dohvrin_part {
     uint64_t refusal; /* the number of the question that said no, or 0 */
@@ -160,6 +202,9 @@ struct dohvrin_part {
 
 /* The least numbers of a work area: 64 KiB. */
 #define DOHVRIN_WORK 8192
+
+/* The least bytes of a text; no text has more. */
+#define DOHVRIN_TEXT 4096
 
 /*
   Appends the remainder of a message f = high * 2^64 + low of K = bits - m bits
@@ -262,6 +307,76 @@ struct dohvrin_listing dohvrin_list(const uint64_t *generators, size_t count, ui
 */
 struct dohvrin_part dohvrin_part(const uint64_t *paths, size_t path_numbers,
                                  const uint64_t *counts, size_t count_entries, uint64_t weight);
+
+/*
+  Searches for the best check polynomial of degree m for words of `bits` bits
+  of the code of `count` generators and memory v, by the paths of weight below
+  d. Accepted: the answer has the polynomial, and says how many events and
+  paths there are. Event table, path table and work area are as dohvrin_list
+  leaves them, and the plain counts are its counts. The undetected counts say
+  how many of the paths of each weight from 0 to d - 1 the polynomial divides,
+  and are 0 after that. Refusal 15, several are best: `left` says how many, the
+  rest of the answer is 0; the tables and plain counts are as an accepted call
+  leaves them, and the undetected counts are those that the best ones share.
+  Refusals 13, there are more events than entries, and 14, there are more paths
+  than pairs of numbers: all five are 0 throughout. Other refusals: 3 (count),
+  4 to 9, 10 (plain_entries or undetected_entries is below d, or work_numbers
+  is below DOHVRIN_WORK); then all five are as they were. What they held before
+  the call does not matter. That the pointers have `count` generators and as
+  many entries and numbers as is said, and that none of the tables overlaps
+  another or the generators, cannot be checked.
+*/
+struct dohvrin_row dohvrin_search(const uint64_t *generators, size_t count, uint64_t v,
+                                  uint64_t bits, uint64_t m, uint64_t d,
+                                  struct dohvrin_event *events, size_t event_entries,
+                                  uint64_t *paths, size_t path_numbers, uint64_t *plain,
+                                  size_t plain_entries, uint64_t *undetected,
+                                  size_t undetected_entries, uint64_t *work,
+                                  size_t work_numbers);
+
+/*
+  Counts the undetected paths of one polynomial of degree m, without a search.
+  Accepted: the answer says how many events and paths there are; tables and
+  plain counts are as dohvrin_search leaves them, and the undetected counts are
+  this polynomial's. Refusals are those of dohvrin_search, and leave the same,
+  with 11 (the polynomial) after 10 and without 15.
+*/
+struct dohvrin_listing dohvrin_count(const uint64_t *generators, size_t count, uint64_t v,
+                                     uint64_t bits, uint64_t m, uint64_t d, uint64_t polynomial,
+                                     struct dohvrin_event *events, size_t event_entries,
+                                     uint64_t *paths, size_t path_numbers, uint64_t *plain,
+                                     size_t plain_entries, uint64_t *undetected,
+                                     size_t undetected_entries, uint64_t *work,
+                                     size_t work_numbers);
+
+/*
+  Writes the row of an order: ORDER with n, v, N, m, d and the generators in
+  octal; EVENTS; PATHS; for each weight from 0 to d - 1 a line A with the weight
+  and both counts; CRC with the polynomial in hexadecimal. Accepted: value is
+  the number of its bytes, which the text begins with; each line ends with a
+  line feed, and the bytes after the last are 0. The numbers may be any, and
+  nothing is computed: only 3 (count), 7, and 10 (plain_entries or
+  undetected_entries is below d, or size is below DOHVRIN_TEXT) are refused,
+  and leave the text as it was. Generators and counts are only read; that the
+  pointers have as many as is said, and that the text overlaps none of them,
+  cannot be checked.
+*/
+struct dohvrin_answer dohvrin_row_text(const uint64_t *generators, size_t count, uint64_t v,
+                                       uint64_t bits, uint64_t m, uint64_t d, uint64_t events,
+                                       uint64_t paths, uint64_t polynomial,
+                                       const uint64_t *plain, size_t plain_entries,
+                                       const uint64_t *undetected, size_t undetected_entries,
+                                       uint8_t *text, size_t size);
+
+/*
+  Writes a refusal: NO with its number, for 15 also with how many are left; for
+  any other number `left` does not matter. Accepted: value is the number of its
+  bytes, which the text begins with, a line feed the last; the bytes after them
+  are 0. The only refusal is 10, size is below DOHVRIN_TEXT, and leaves the text
+  as it was. That the pointer has `size` bytes cannot be checked.
+*/
+struct dohvrin_answer dohvrin_refusal_text(uint64_t number, uint64_t left, uint8_t *text,
+                                           size_t size);
 
 /*
   Reads an order from a record of `size` bytes: the length of what follows it

@@ -1,9 +1,10 @@
 /*
   Reads order records, each argument one in hexadecimal, and takes a message
   through the link of each: append, weigh, encode, damage, strip. Then it
-  collects the events of each and prints the first of them, and lists its
-  paths: how many there are of each weight, and the heaviest of them.
-  Without arguments it takes the four records below.
+  collects the events of each and prints the first of them, lists its paths
+  (how many there are of each weight, and the heaviest of them), counts those
+  that pass the check unseen, and prints the row of the best polynomial.
+  Without arguments it takes the five records below.
 */
 #include <inttypes.h>
 #include <stdio.h>
@@ -21,35 +22,40 @@ _Static_assert(sizeof(struct dohvrin_event) == 40, "five 64-bit numbers");
 _Static_assert(offsetof(struct dohvrin_event, high) == 32, "without gaps");
 _Static_assert(sizeof(struct dohvrin_listing) == 24, "three 64-bit numbers");
 _Static_assert(offsetof(struct dohvrin_listing, paths) == 16, "without gaps");
+_Static_assert(sizeof(struct dohvrin_row) == 40, "five 64-bit numbers");
+_Static_assert(offsetof(struct dohvrin_row, left) == 32, "without gaps");
 _Static_assert(sizeof(struct dohvrin_part) == 24, "three 64-bit numbers");
 _Static_assert(offsetof(struct dohvrin_part, numbers) == 16, "without gaps");
 
 enum { MOST_BYTES = 64, MOST_OUTPUT = 4 * 128, ENTRIES = 16000, PATHS = 16000, SHOWN = 5 };
 
-/* Lent to the collections and listings, which need nothing of what they hold. */
+/* Lent to one call after another, none of which needs what they hold. */
 static struct dohvrin_event events[ENTRIES];
 static uint64_t paths[2 * PATHS];
 static uint64_t counts[64];
+static uint64_t undetected[64];
 static uint64_t work[DOHVRIN_WORK];
+static uint8_t text[DOHVRIN_TEXT];
 
 static const char *const records[] = {
     "000A01020103020500010003", /* n 2, v 1, N 3, m 2, d 5, generators 1, 3 */
     "000A01020104020700010003", /* n 2, v 1, N 4, m 2, d 7, generators 1, 3 */
+    "000A01020104020400010003", /* the same with d = 4 */
     "000A010203460612000B000F", /* n 2, v 3, N 70, m 6, d 18, generators 13, 17 octal */
     "000A01020181020700010003", /* the second with N = 129 */
 };
 
 /* The bytes of a text of hexadecimal digits, two a byte; 0 where it is none. */
-static int read_hex(const char *text, uint8_t *bytes, size_t *size)
+static int read_hex(const char *hex, uint8_t *bytes, size_t *size)
 {
-    size_t digits = strlen(text);
+    size_t digits = strlen(hex);
 
     if (digits % 2 != 0 || digits / 2 > MOST_BYTES
-        || strspn(text, "0123456789abcdefABCDEF") != digits)
+        || strspn(hex, "0123456789abcdefABCDEF") != digits)
         return 0;
     *size = digits / 2;
     for (size_t i = 0; i < *size; i++) {
-        const char pair[3] = {text[2 * i], text[2 * i + 1], '\0'};
+        const char pair[3] = {hex[2 * i], hex[2 * i + 1], '\0'};
         bytes[i] = (uint8_t)strtoul(pair, NULL, 16);
     }
     return 1;
@@ -93,13 +99,19 @@ static void print_stripped(const struct dohvrin_order *order, uint64_t polynomia
         print_word("message", a.low, a.high);
 }
 
-/* The all-ones message of the order's K bits under x^m + x + 1 (x^m + 1 for m = 1). */
+/* x^m + x + 1, or x + 1 for m = 1. */
+static uint64_t polynomial_of(const struct dohvrin_order *order)
+{
+    return UINT64_C(1) << order->m | (order->m == 1 ? 1 : 3);
+}
+
+/* The all-ones message of the order's K bits under that polynomial. */
 static void run_link(const struct dohvrin_order *order)
 {
     uint64_t k = order->bits - order->m;
     uint64_t low = k < 64 ? (UINT64_C(1) << k) - 1 : UINT64_MAX;
     uint64_t high = k > 64 ? (UINT64_C(1) << (k - 64)) - 1 : 0;
-    uint64_t polynomial = UINT64_C(1) << order->m | (order->m == 1 ? 1 : 3);
+    uint64_t polynomial = polynomial_of(order);
     struct dohvrin_answer word = dohvrin_append(order->bits, order->m, polynomial, low, high);
 
     if (word.refusal != 0) {
@@ -162,14 +174,53 @@ static void print_paths(const struct dohvrin_order *order)
     }
 }
 
-static int run_record(const char *text)
+/* How many paths of each weight pass the check of that polynomial. */
+static void print_undetected(const struct dohvrin_order *order)
+{
+    const uint64_t generators[4] = {order->g1, order->g2, order->g3, order->g4};
+    uint64_t polynomial = polynomial_of(order);
+    struct dohvrin_listing a = dohvrin_count(generators, (size_t)order->n, order->v, order->bits,
+                                             order->m, order->d, polynomial, events, ENTRIES,
+                                             paths, 2 * PATHS, counts, 64, undetected, 64,
+                                             work, DOHVRIN_WORK);
+
+    if (a.refusal != 0) {
+        printf("  refused: %" PRIu64 "\n", a.refusal);
+        return;
+    }
+    printf("  unseen under 0x%" PRIX64 ":", polynomial);
+    for (uint64_t w = 0; w < order->d; w++)
+        printf(" %" PRIu64, undetected[w]);
+    putchar('\n');
+}
+
+/* The row of the best polynomial, or the refusal. 15: several are best. */
+static void print_row(const struct dohvrin_order *order)
+{
+    const uint64_t generators[4] = {order->g1, order->g2, order->g3, order->g4};
+    size_t n = (size_t)order->n;
+    struct dohvrin_row row = dohvrin_search(generators, n, order->v, order->bits, order->m,
+                                            order->d, events, ENTRIES, paths, 2 * PATHS,
+                                            counts, 64, undetected, 64, work, DOHVRIN_WORK);
+    struct dohvrin_answer written;
+
+    if (row.refusal != 0)
+        written = dohvrin_refusal_text(row.refusal, row.left, text, sizeof text);
+    else
+        written = dohvrin_row_text(generators, n, order->v, order->bits, order->m, order->d,
+                                   row.events, row.paths, row.polynomial, counts, 64,
+                                   undetected, 64, text, sizeof text);
+    fwrite(text, 1, written.value, stdout);
+}
+
+static int run_record(const char *hex)
 {
     uint8_t bytes[MOST_BYTES];
     size_t size;
     struct dohvrin_order order;
 
-    if (!read_hex(text, bytes, &size)) {
-        fprintf(stderr, "%s: up to %d bytes in hexadecimal are asked for\n", text, MOST_BYTES);
+    if (!read_hex(hex, bytes, &size)) {
+        fprintf(stderr, "%s: up to %d bytes in hexadecimal are asked for\n", hex, MOST_BYTES);
         return 0;
     }
     order = dohvrin_read_order(bytes, size);
@@ -183,6 +234,8 @@ static int run_record(const char *text)
     run_link(&order);
     print_events(&order);
     print_paths(&order);
+    print_undetected(&order);
+    print_row(&order);
     return 1;
 }
 

@@ -11,8 +11,8 @@ use lib.Seq.{length-take-le}
 use borrow.Author.Tests.{leb-true, ltb-true, le-leb}
 use Rattle.lists.proofs.Tests.{both}
 use Rattle.paths.specs.Part.{pathsBefore, partFits, partOf, partNumber, beforeOr}
-use Rattle.dohvrin.specs.declared.PartAnswer.{PartAnswer}
-use Rattle.dohvrin.specs.Answers.{partAnswer}
+use Rattle.answers.specs.declared.PartAnswer.{PartAnswer}
+use Rattle.answers.specs.Answers.{partAnswer}
 
 module _ (counts : List ℕ) (w : ℕ) (table : List ℕ) where
   by-test : (b : Bool) → partFits counts w table ≡ b → (partAnswer counts w table ≡ cond b record { refusal = 0; start = 2 * pathsBefore counts w; numbers = 2 * getD counts w 0 } record { refusal = 10; start = 0; numbers = 0 })

@@ -42,3 +42,10 @@ both false b e = absurd (subst T (sym e) tt)
 pub T-not-not : (a : Bool) → T (not (not a)) → T a
 T-not-not true t = tt
 T-not-not false t = absurd t
+
+-- tests that pass together are equal
+pub same-test : (a b : Bool) → (T a → T b) → (T b → T a) → a ≡ b
+same-test true true f g = refl
+same-test true false f g = absurd (f tt)
+same-test false true f g = absurd (g tt)
+same-test false false f g = refl

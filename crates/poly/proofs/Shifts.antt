@@ -1,12 +1,12 @@
 -- Laws of shifts and cuts of a number in two halves of 64 bits, h * 2^64 + l, in the shapes in which `src/word.rt` computes them.
 -- Assumes nothing.
-use mathlib.Core.Path.{_≡_, refl, sym, ap, ap₂, _∙_, subst}
+use mathlib.Core.Path.{_≡_, sym, ap, ap₂, _∙_, subst}
 use mathlib.Core.Bool.{true, false}
-use Prim.Native.Nat.{ℕ, zero, suc, _+_, _-_, _*_, _/_, _%_, _^_, _≤_, _<_}
-use native.Mathlib.Nat.{one-mul, zero-mul, zero-add, add-zero, add-assoc, add-comm, add-mul, mul-assoc, mul-comm, mul-right-comm, mod-eq-of-lt, mod-lt, lt-of-lt-of-le, le-trans, le-of-eq, add-sub-of-le, sub-add-cancel, mul-div-mul-right, mul-div-left, mul-mod-left, mul-add-mod-self-right, mul-add-div-right, div-add-mod', div-lt-iff-lt-mul, lt-of-mul-lt-mul-right, le-add-right, lt-of-le-of-lt}
+use Prim.Native.Nat.{ℕ, _+_, _-_, _*_, _/_, _%_, _^_, _≤_, _<_}
+use native.Mathlib.Nat.{one-mul, zero-add, add-zero, add-assoc, add-comm, add-mul, mul-assoc, mul-comm, mul-right-comm, mod-eq-of-lt, mod-lt, lt-of-lt-of-le, le-trans, le-of-eq, sub-add-cancel, mul-div-mul-right, mul-div-left, mul-mod-left, mul-add-mod-self-right, mul-add-div-right, div-add-mod', div-lt-iff-lt-mul, lt-of-mul-lt-mul-right, le-add-right, lt-of-le-of-lt}
 use native.Mathlib.Omega.{arith}
 use borrow.Author.Tests.{lt-ltb, le-ltb}
-use lib.Dec.{ltb, lit<}
+use lib.Dec.{ltb}
 use lib.Arith.{digits-lt, digits-div, digits-mod, mod-mul}
 use lib.Pow.{pow-pos, pow-add, pow-lt, pow-mono, mod-pow-add}
 use Rattle.poly.proofs.Halves.{ltb-cong}
@@ -15,7 +15,7 @@ pub shl-one : (k : ℕ) → k < 64 → 1 * 2 ^ k % 2 ^ 64 ≡ 2 ^ k
 shl-one k h = ap (λ (x : ℕ). x % 2 ^ 64) (one-mul (2 ^ k)) ∙ mod-eq-of-lt (pow-lt h)
 
 -- 2^(k - 64) high halves make 2^k
-high-power : (k : ℕ) → 64 ≤ k → 2 ^ (k - 64) * 2 ^ 64 ≡ 2 ^ k
+pub high-power : (k : ℕ) → 64 ≤ k → 2 ^ (k - 64) * 2 ^ 64 ≡ 2 ^ k
 high-power k h = sym (pow-add 2 (k - 64) 64) ∙ ap (λ (x : ℕ). 2 ^ x) (sub-add-cancel h)
 
 pub halves-lt : (h l : ℕ) → h < 2 ^ 64 → l < 2 ^ 64 → h * 2 ^ 64 + l < 2 ^ 128
@@ -83,6 +83,21 @@ push-halves h l b p s =
 
 powers : (m : ℕ) → m < 64 → 2 ^ (64 - m) * 2 ^ m ≡ 2 ^ 64
 powers m s = sym (pow-add 2 (64 - m) m) ∙ ap (λ (x : ℕ). 2 ^ x) (sub-add-cancel {n = 64} {m = m} (omega arith))
+
+-- a multiple of 2^k, cut to 64 bits
+cut : (x k : ℕ) → k < 64 → x * 2 ^ k % 2 ^ 64 ≡ x % 2 ^ (64 - k) * 2 ^ k
+cut x k s =
+    ap (λ (y : ℕ). x * 2 ^ k % y) (sym (powers k s))
+    ∙ mod-mul (x * 2 ^ k) (pow-pos (64 - k)) (pow-pos k)
+    ∙ ap₂ (λ (y z : ℕ). y % 2 ^ (64 - k) * 2 ^ k + z) (mul-div-left x (pow-pos k)) (mul-mod-left x (2 ^ k))
+    ∙ add-zero (x % 2 ^ (64 - k) * 2 ^ k)
+
+-- a number below 2^k beside one
+pub beside-fits : (a x k : ℕ) → k < 64 → a < 2 ^ k → a + x * 2 ^ k % 2 ^ 64 < 2 ^ 64
+beside-fits a x k s h =
+    subst (λ (y : ℕ). a + y < 2 ^ 64) (sym (cut x k s))
+    (subst (λ (y : ℕ). a + x % 2 ^ (64 - k) * 2 ^ k < y) (powers k s)
+    (subst (λ (y : ℕ). y < 2 ^ (64 - k) * 2 ^ k) (add-comm (x % 2 ^ (64 - k) * 2 ^ k) a) (digits-lt (mod-lt x (pow-pos (64 - k))) h)))
 
 -- what leaves the low half upwards
 carried : (l m : ℕ) → m < 64 → l * 2 ^ m / 2 ^ 64 ≡ l / 2 ^ (64 - m)

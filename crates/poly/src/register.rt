@@ -46,3 +46,16 @@ pub fn remainder_of(w: Word, n: u64, m: u64, polynomial: u64) -> u64
     }
     r.value
 }
+
+// x times a remainder of division by a polynomial of degree m, divided again.
+pub fn times_x(r: u64, m: u64, polynomial: u64) -> u64
+    requires { ⌜ (m ≤ 12) × HasDegree m polynomial × (r < 2 ^ m) ⌝ }
+    ensures { λ s. ⌜ s ≡ register m polynomial r 0 ⌝ }
+{
+    let register = Register {
+        degree: m,
+        polynomial,
+        value: r,
+    };
+    register.take(0).value
+}

@@ -1,12 +1,12 @@
 -- A number with another set above it, a + x * 2^p where a < 2^p, in two halves of 64 bits as the code computes it: no sum of halves overflows.
 -- Assumes nothing.
 use Prim.Native.Nat.{ℕ, _+_, _-_, _*_, _/_, _%_, _^_, _≤_, _<_}
-use native.Mathlib.Nat.{zero-add, add-zero, add-comm, mul-one, mul-assoc, mod-eq-of-lt, mod-lt, mul-mod-left, mul-div-left, lt-of-mul-lt-mul-right, mul-le-mul-left, sub-add-cancel}
+use native.Mathlib.Nat.{zero-add, mul-one, mul-assoc, mod-eq-of-lt, lt-of-mul-lt-mul-right, mul-le-mul-left, sub-add-cancel}
 use native.Mathlib.Omega.{arith}
 use mathlib.Core.Path.{_≡_, sym, ap, ap₂, _∙_, subst}
-use lib.Arith.{lt-one, digits-lt, mod-mul}
+use lib.Arith.{lt-one}
 use lib.Pow.{pow-pos, pow-add, pow-lt}
-use Rattle.poly.proofs.Shifts.{up-halves}
+use Rattle.poly.proofs.Shifts.{beside-fits, up-halves}
 
 -- ---- place 0
 
@@ -15,25 +15,6 @@ joined-first h l g m p e s =
     let one : 2 ^ p ≡ 1 = ap (λ (x : ℕ). 2 ^ x) e in
     let none : g * 2 ^ 64 + m ≡ 0 = lt-one (subst (λ (x : ℕ). g * 2 ^ 64 + m < x) one s) in
     sym (ap₂ (λ (x y : ℕ). x + (h * 2 ^ 64 + l) * y) none one ∙ zero-add ((h * 2 ^ 64 + l) * 1) ∙ mul-one (h * 2 ^ 64 + l))
-
--- ---- multiples of 2^k, cut to 64 bits
-
-powers : (k : ℕ) → k < 64 → 2 ^ (64 - k) * 2 ^ k ≡ 2 ^ 64
-powers k s = sym (pow-add 2 (64 - k) k) ∙ ap (λ (x : ℕ). 2 ^ x) (sub-add-cancel {n = 64} {m = k} (omega arith))
-
-cut : (x k : ℕ) → k < 64 → x * 2 ^ k % 2 ^ 64 ≡ x % 2 ^ (64 - k) * 2 ^ k
-cut x k s =
-    ap (λ (y : ℕ). x * 2 ^ k % y) (sym (powers k s))
-    ∙ mod-mul (x * 2 ^ k) (pow-pos (64 - k)) (pow-pos k)
-    ∙ ap₂ (λ (y z : ℕ). y % 2 ^ (64 - k) * 2 ^ k + z) (mul-div-left x (pow-pos k)) (mul-mod-left x (2 ^ k))
-    ∙ add-zero (x % 2 ^ (64 - k) * 2 ^ k)
-
--- a number below 2^k beside one
-pub beside-fits : (a x k : ℕ) → k < 64 → a < 2 ^ k → a + x * 2 ^ k % 2 ^ 64 < 2 ^ 64
-beside-fits a x k s h =
-    subst (λ (y : ℕ). a + y < 2 ^ 64) (sym (cut x k s))
-    (subst (λ (y : ℕ). a + x % 2 ^ (64 - k) * 2 ^ k < y) (powers k s)
-    (subst (λ (y : ℕ). y < 2 ^ (64 - k) * 2 ^ k) (add-comm (x % 2 ^ (64 - k) * 2 ^ k) a) (digits-lt (mod-lt x (pow-pos (64 - k))) h)))
 
 -- ---- places 1 to 63
 

@@ -2,23 +2,19 @@
 -- with zeros.
 -- Assumes nothing.
 use Prim.Native.Nat.{ℕ, _+_, _*_, _/_, _%_, _^_, _≤_, _<_}
-use native.Mathlib.Numerals.{add-one}
 use native.Mathlib.Decide.{decLt}
 use native.Mathlib.Omega.{arith}
 use mathlib.Core.Path.{_≡_, refl, sym, ap, ap₂, _∙_, subst}
 use mathlib.Core.Bool.{Bool, true, false, cond}
 use mathlib.Core.List.{List, [], _∷_, _++_, flatMap, append-nil, append-assoc}
 use lib.Dec.{T, ltb, ltb→lt, lt→ltb, not-T}
-use lib.ListN.{length, set, replicate, length-set, length-append}
+use lib.ListN.{length, set, length-set, length-append}
 use lib.Pow.{low, high}
-use lib.Seq.{sets}
 use Rattle.lists.specs.Lists.{padded}
-use Rattle.lists.proofs.Blocks.{flatMap-one, flatMap-append}
 use Rattle.lists.proofs.Choices.{cond-true, cond-false}
 use Rattle.lists.proofs.Lengths.{length-padded}
-use Rattle.lists.proofs.Stores.{sets-append, sets-cleared}
 use Rattle.poly.specs.Word.{halves}
-use Rattle.poly.proofs.Halves.{length-halves}
+use Rattle.poly.proofs.Halves.{length-halves, stored-halves}
 use Rattle.paths.specs.Paths.{pathRoom}
 use Rattle.rotations.specs.Put.{stored, put, puts}
 
@@ -130,30 +126,13 @@ words-fit size ws h = subst (λ (n : ℕ). n ≤ size) (sym (length-halves ws)) 
 pub length-listed : (size : ℕ) (ws : List ℕ) → length ws ≤ pathRoom size → length (padded size 0 (flatMap halves ws)) ≡ size
 length-listed size ws h = length-padded size 0 (flatMap halves ws) (words-fit size ws h)
 
-stored-sets : (t : List ℕ) (at u : ℕ) → stored t at u ≡ sets t (2 * at) (halves u)
-unfolding stored halves
-stored-sets t at u = ap (λ (k : ℕ). set (set t (2 * at) (u % 2 ^ 64)) k (u / 2 ^ 64)) (add-one (2 * at))
-
-flat-last : (ws : List ℕ) (u : ℕ) → flatMap halves ws ++ halves u ≡ flatMap halves (ws ++ (u ∷ []))
-flat-last ws u = sym (flatMap-append halves ws (u ∷ []) ∙ ap (λ (l : List ℕ). flatMap halves ws ++ l) (flatMap-one halves u))
-
 length-last : (ws : List ℕ) (u : ℕ) → length (ws ++ (u ∷ [])) ≡ length ws + 1
 length-last ws u = length-append ws (u ∷ [])
 
 pub stored-listed : (size : ℕ) (ws : List ℕ) (u : ℕ) → length ws < pathRoom size
     → stored (padded size 0 (flatMap halves ws)) (length ws) u ≡ padded size 0 (flatMap halves (ws ++ (u ∷ [])))
-stored-listed size ws u h =
-    let xs : List ℕ = flatMap halves ws in
-    let fit : length ws ≤ pathRoom size = omega arith in
-    let fit′ : length (ws ++ (u ∷ [])) ≤ pathRoom size = omega (arith, length-last ws u) in
-    stored-sets (padded size 0 xs) (length ws) u
-    ∙ ap₂ (λ (t : List ℕ) (k : ℕ). sets t k (halves u)) (sym (sets-cleared size 0 xs (words-fit size ws fit))) (sym (length-halves ws) ∙ from-zero (length xs))
-    ∙ sym (sets-append (replicate size 0) 0 xs (halves u))
-    ∙ ap (sets (replicate size 0) 0) (flat-last ws u)
-    ∙ sets-cleared size 0 (flatMap halves (ws ++ (u ∷ []))) (words-fit size (ws ++ (u ∷ [])) fit′)
-  where
-    from-zero : (x : ℕ) → x ≡ 0 + x
-    from-zero x = omega arith
+unfolding stored pathRoom
+stored-listed size ws u h = stored-halves size ws u (omega arith)
 
 -- the state of such a table
 unfoldable pub listed : ℕ → List ℕ → List ℕ × ℕ

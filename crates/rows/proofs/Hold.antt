@@ -13,11 +13,12 @@ use Rattle.order.specs.Order.{orderQuestions}
 use Rattle.events.specs.Events.{listed, eventsOfLength, eventsOfState, events, entry, noEvent, eventTable}
 use Rattle.poly.specs.Word.{halves}
 use Rattle.paths.specs.Paths.{words, wordsOfWeight, weights, paths, plainCounts, pathTable, pathRoom}
-use Rattle.search.specs.Undetected.{passes, undetectedCount, undetectedCounts}
-use Rattle.search.specs.Choice.{candidates, fewer, betters, best, choiceOf, choice}
-use Rattle.search.specs.Row.{cleared, allCleared, filled, searchQuestions, chosen, counted, asked, search}
+use Rattle.undetected.specs.Undetected.{passes, undetectedCount, undetectedCounts}
+use Rattle.choice.specs.Choice.{candidates, fewer, betters, best, choiceOf, choice}
+use Rattle.listing.specs.Calls as Listing
+use Rattle.search.specs.Calls.{allCleared, filled, searchQuestions, fitting, asked, chosen, searchCall}
 use Rattle.rows.specs.Rows.{lent, figuresOf, told, rows}
 
 pub rows-hold : map (λ line. told (line .0)) rows ≡ map (λ line. line .1) rows
-unfolding flatMap onesIn ones upFrom filter count all any padded bit _⊕_ digitsThrough horner _⊗_ register remainder append output weight next tapped stepOutput stepWeight walkWeight firstMeets firstNo from-to inRange hasBit workSize orderNumbers generatorQuestions orderQuestions listed eventsOfLength eventsOfState events entry noEvent eventTable words wordsOfWeight weights paths plainCounts halves pathTable pathRoom passes undetectedCount undetectedCounts candidates fewer betters best choiceOf choice cleared allCleared filled searchQuestions chosen counted asked search lent figuresOf told rows
+unfolding flatMap onesIn ones upFrom filter count all any padded bit _⊕_ digitsThrough horner _⊗_ register remainder append output weight next tapped stepOutput stepWeight walkWeight firstMeets firstNo from-to inRange hasBit workSize orderNumbers generatorQuestions orderQuestions listed eventsOfLength eventsOfState events entry noEvent eventTable words wordsOfWeight weights paths plainCounts halves pathTable pathRoom passes undetectedCount undetectedCounts candidates fewer betters best choiceOf choice Listing.cleared Listing.allCleared Listing.filled allCleared filled searchQuestions fitting asked chosen searchCall lent figuresOf told rows
 rows-hold = refl

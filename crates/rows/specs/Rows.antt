@@ -11,7 +11,7 @@ use Rattle.order.specs.Questions.{workSize}
 use Rattle.order.specs.Order.{Order}
 use Rattle.events.specs.Events.{ErrorEvent, events, noEvent}
 use Rattle.paths.specs.Paths.{paths, plainCounts}
-use Rattle.search.specs.Row.{Tables, Answer, found, refused, tied, search}
+use Rattle.search.specs.Calls.{Answer, found, refused, tied, Tables, searchCall}
 
 -- what a line asks: the row of an order; the weight of a word; the word of a message
 pub data Ask : Type 0 where
@@ -32,13 +32,12 @@ pub data Told : Type 0 where
 
 -- what the definitions give, with `dso`'s tables lent: 512 events, 2,048 paths
 unfoldable pub lent : ℕ → Tables
-lent d =
-    record { events = replicate 512 noEvent; paths = replicate (2 * 2048) 0; plain = replicate d 0; undetected = replicate d 0; work = replicate workSize 0 }
+lent d = ((replicate 512 noEvent, (replicate (2 * 2048) 0, (replicate d 0, replicate workSize 0))), replicate d 0)
 
 unfoldable pub figuresOf : Order → Figures
 figuresOf o =
-    let s = search o (lent (o .d)) in
-    record { answer = s .0; events = events o; paths = paths o; plain = plainCounts o; undetected = s .1 .undetected }
+    let s = searchCall o (lent (o .d)) in
+    record { answer = s .0; events = events o; paths = paths o; plain = plainCounts o; undetected = s .1 .1 }
 
 unfoldable pub told : Ask → Told
 told (row o) = figures (figuresOf o)

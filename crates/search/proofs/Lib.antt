@@ -1,5 +1,4 @@
-pub mod Undetected
-pub mod Fewer
-pub mod Candidates
-pub mod Best
-pub mod Chosen
+pub mod Asked
+pub mod Demand
+pub mod Answers
+pub mod Walked

@@ -1,3 +1,2 @@
-pub mod Undetected
-pub mod Choice
-pub mod Row
+pub mod Calls
+pub mod Steps

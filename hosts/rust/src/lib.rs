@@ -2,6 +2,19 @@
 //! and leaves; here words are `u128`, refusals are errors, and nothing that a
 //! caller can pass is undefined.
 //!
+//! Most programs want `Order`, `Tables` and `Row`. An `Order` is one that the
+//! library accepts, `Tables` own what it writes into, and neither can be wrong:
+//!
+//! ```
+//! use dohvrin::{Order, Tables};
+//!
+//! let order = Order::new(&[0o13, 0o17], 3, 20, 6, 12).unwrap();
+//! let mut tables = Tables::within(1 << 20);
+//! println!("{}", tables.search(&order).unwrap().text());
+//! ```
+//!
+//! The functions below them take numbers and slices, as the calls do.
+//!
 //! Notation: a polynomial over GF(2) is a number whose bit j is the
 //! coefficient of x^j. `bits` is N, the bits of a word; v is the memory.
 //!
@@ -10,7 +23,7 @@
 //! assert_eq!(weight, Ok(7));
 //! let word = dohvrin::append(70, 6, 0x43, 5).unwrap();
 //! assert_eq!(dohvrin::strip(70, 6, 0x43, word), Ok(dohvrin::Stripped::Message(5)));
-//! assert_eq!(dohvrin::test(70, 6, 0x40, word), Err(dohvrin::Refusal(11)));
+//! assert_eq!(dohvrin::test(70, 6, 0x40, word), Err(dohvrin::Refusal::Polynomial));
 //! ```
 //!
 //! Error events go into a table that the caller lends, with a work area:
@@ -23,7 +36,7 @@
 //! let listed = table.map(|e| (e.state, e.length, e.weight, e.input()));
 //! assert_eq!(listed[..4], [(0, 1, 0, 0), (0, 2, 3, 1), (0, 3, 4, 3), (1, 1, 1, 1)]);
 //! assert_eq!(listed[4..], [(0, 0, 0, 0); 2]);
-//! assert_eq!(collect(&[1, 3], 1, 3, 5, &mut table[..3], &mut work), Err(Refusal(13)));
+//! assert_eq!(collect(&[1, 3], 1, 3, 5, &mut table[..3], &mut work), Err(Refusal::Events));
 //! ```
 //!
 //! Paths go into one more table, two numbers a word, and are counted by weight;
@@ -39,29 +52,62 @@
 //! assert_eq!(counts, [0, 0, 0, 4, 5, 4, 2]);
 //! let heaviest: Vec<u128> = words(part(&paths, &counts, 6).unwrap()).collect();
 //! assert_eq!(heaviest, [5, 10]);
-//! assert_eq!(part(&paths, &counts, 7), Err(Refusal(10)));
+//! assert_eq!(part(&paths, &counts, 7), Err(Refusal::Room));
+//! ```
+//!
+//! The search takes the same tables and one more list of counts, those of the
+//! words that pass the check unseen, and `row_text` writes what it found:
+//!
+//! ```
+//! use dohvrin::{count, refusal_text, row_text, search, Event, Listed, Searched, TEXT, WORK};
+//!
+//! let (mut events, mut paths, mut work) = ([Event::default(); 5], [0; 30], vec![0; WORK]);
+//! let (mut plain, mut undetected, mut text) = ([0; 7], [0; 7], [0; TEXT]);
+//! let found = search(
+//!     &[1, 3], 1, 4, 2, 6,
+//!     &mut events, &mut paths, &mut plain, &mut undetected, &mut work,
+//! );
+//! let row = Searched::Found { events: 5, paths: 13, polynomial: 0x5 };
+//! assert_eq!(found, Ok(row));
+//! assert_eq!(undetected, [0, 0, 0, 0, 1, 0, 0]);
+//! let size = row_text(&[1, 3], 1, 4, 2, 6, 5, 13, 0x5, &plain, &undetected, &mut text).unwrap();
+//! assert!(text[..size].starts_with(b"ORDER 2 1 4 2 6 1 3\nEVENTS 5\nPATHS 13\nA 0 0 0\n"));
+//! assert!(text[..size].ends_with(b"A 5 4 0\nCRC 0x5\n"));
+//!
+//! let counted = count(
+//!     &[1, 3], 1, 4, 2, 6, 0x7,
+//!     &mut events, &mut paths, &mut plain, &mut undetected, &mut work,
+//! );
+//! assert_eq!(counted, Ok(Listed { events: 5, paths: 13 }));
+//! assert_eq!(undetected, [0, 0, 0, 0, 1, 2, 0]);
+//!
+//! // Below 4 all candidates count the same.
+//! let tied = search(
+//!     &[1, 3], 1, 4, 2, 4,
+//!     &mut events, &mut paths, &mut plain, &mut undetected, &mut work,
+//! );
+//! assert_eq!(tied, Ok(Searched::Tied(2)));
+//! assert_eq!(refusal_text(15, 2, &mut text), Ok(8));
+//! assert_eq!(text[..8], *b"NO 15 2\n");
 //! ```
 
+mod order;
 pub mod raw;
+mod refusal;
+mod row;
+mod tables;
 
+pub use order::Order;
 pub use raw::Event;
-use std::error::Error;
-use std::fmt;
+pub use refusal::Refusal;
+pub use row::Row;
+pub use tables::Tables;
 
 /// The least numbers of a work area.
 pub const WORK: usize = 8192;
 
-/// The number of the first question that says no, 1 to 14.
-#[derive(Clone, Copy, Debug, PartialEq, Eq)]
-pub struct Refusal(pub u64);
-
-impl fmt::Display for Refusal {
-    fn fmt(&self, f: &mut fmt::Formatter) -> fmt::Result {
-        write!(f, "refused by question {}", self.0)
-    }
-}
-
-impl Error for Refusal {}
+/// The least bytes of a text buffer; no text has more.
+pub const TEXT: usize = 4096;
 
 /// What stripping a word gives.
 #[derive(Clone, Copy, Debug, PartialEq, Eq)]
@@ -70,21 +116,6 @@ pub enum Stripped {
     Message(u128),
     /// The remainder, not zero.
     Damaged(u64),
-}
-
-/// An order that has passed questions 1 to 9.
-#[derive(Clone, Debug, PartialEq, Eq)]
-pub struct Order {
-    /// The memory.
-    pub v: u64,
-    /// N, the bits of a word.
-    pub bits: u64,
-    /// The check degree.
-    pub m: u64,
-    /// The threshold on weights.
-    pub d: u64,
-    /// The n generators.
-    pub generators: Vec<u64>,
 }
 
 /// The word of a message of `bits - m` bits: x^m f plus its remainder.
@@ -225,6 +256,175 @@ pub fn list(
     })
 }
 
+/// What a search leaves in its tables.
+#[derive(Clone, Copy, Debug, PartialEq, Eq)]
+pub enum Searched {
+    /// How many events and paths, and the best polynomial.
+    Found {
+        events: usize,
+        paths: usize,
+        polynomial: u64,
+    },
+    /// Refusal 15: so many polynomials share the best counts.
+    Tied(u64),
+}
+
+/// The best check polynomial of degree m for words of `bits` bits, by the paths
+/// of weight below d. The tables and `plain` are as `list` leaves them; the list
+/// `undetected` says how many paths of each weight from 0 to d - 1 pass the
+/// check of the best polynomial, or of each that shares the best counts, with
+/// zeros after them. Refusals 13 and 14 leave zeros in all five; another refusal
+/// leaves all five as they were.
+#[allow(clippy::too_many_arguments)]
+pub fn search(
+    generators: &[u64],
+    v: u64,
+    bits: u64,
+    m: u64,
+    d: u64,
+    events: &mut [Event],
+    paths: &mut [u64],
+    plain: &mut [u64],
+    undetected: &mut [u64],
+    work: &mut [u64],
+) -> Result<Searched, Refusal> {
+    // SAFETY: pointers and counts are those of six slices, of which all but
+    // the generators are borrowed alone, so that none overlaps another.
+    let answer = unsafe {
+        raw::dohvrin_search(
+            generators.as_ptr(),
+            generators.len(),
+            v,
+            bits,
+            m,
+            d,
+            events.as_mut_ptr(),
+            events.len(),
+            paths.as_mut_ptr(),
+            paths.len(),
+            plain.as_mut_ptr(),
+            plain.len(),
+            undetected.as_mut_ptr(),
+            undetected.len(),
+            work.as_mut_ptr(),
+            work.len(),
+        )
+    };
+    if answer.refusal == 15 {
+        return Ok(Searched::Tied(answer.left));
+    }
+    accepted(answer.refusal)?;
+    // Not more than the tables take.
+    Ok(Searched::Found {
+        events: answer.events as usize,
+        paths: answer.paths as usize,
+        polynomial: answer.polynomial,
+    })
+}
+
+/// The undetected counts of one polynomial, which question 11 asks for degree m
+/// and constant term 1; all tables are left as `search` leaves them.
+#[allow(clippy::too_many_arguments)]
+pub fn count(
+    generators: &[u64],
+    v: u64,
+    bits: u64,
+    m: u64,
+    d: u64,
+    polynomial: u64,
+    events: &mut [Event],
+    paths: &mut [u64],
+    plain: &mut [u64],
+    undetected: &mut [u64],
+    work: &mut [u64],
+) -> Result<Listed, Refusal> {
+    // SAFETY: pointers and counts are those of six slices, of which all but
+    // the generators are borrowed alone, so that none overlaps another.
+    let answer = unsafe {
+        raw::dohvrin_count(
+            generators.as_ptr(),
+            generators.len(),
+            v,
+            bits,
+            m,
+            d,
+            polynomial,
+            events.as_mut_ptr(),
+            events.len(),
+            paths.as_mut_ptr(),
+            paths.len(),
+            plain.as_mut_ptr(),
+            plain.len(),
+            undetected.as_mut_ptr(),
+            undetected.len(),
+            work.as_mut_ptr(),
+            work.len(),
+        )
+    };
+    accepted(answer.refusal)?;
+    // Not more than the tables take.
+    Ok(Listed {
+        events: answer.events as usize,
+        paths: answer.paths as usize,
+    })
+}
+
+/// The text of a row, as `dso` prints it, of any numbers: how many bytes of the
+/// buffer it takes, with zeros after them. Only the number of generators (3), d
+/// (7), and the sizes are asked for (10: fewer counts than d, a buffer below
+/// `TEXT`); a refusal leaves the buffer as it was.
+#[allow(clippy::too_many_arguments)]
+pub fn row_text(
+    generators: &[u64],
+    v: u64,
+    bits: u64,
+    m: u64,
+    d: u64,
+    events: u64,
+    paths: u64,
+    polynomial: u64,
+    plain: &[u64],
+    undetected: &[u64],
+    text: &mut [u8],
+) -> Result<usize, Refusal> {
+    // SAFETY: pointers and counts are those of four slices, of which the text
+    // is borrowed alone, so that it overlaps none of the others.
+    let answer = unsafe {
+        raw::dohvrin_row_text(
+            generators.as_ptr(),
+            generators.len(),
+            v,
+            bits,
+            m,
+            d,
+            events,
+            paths,
+            polynomial,
+            plain.as_ptr(),
+            plain.len(),
+            undetected.as_ptr(),
+            undetected.len(),
+            text.as_mut_ptr(),
+            text.len(),
+        )
+    };
+    accepted(answer.refusal)?;
+    // Not more than the buffer has.
+    Ok(answer.value as usize)
+}
+
+/// The text of a refusal, as `dso` prints it: how many bytes of the buffer it
+/// takes, with zeros after them. `left` is told with 15 alone. Refusal 10, a
+/// buffer below `TEXT`, leaves it as it was.
+pub fn refusal_text(number: u64, left: u64, text: &mut [u8]) -> Result<usize, Refusal> {
+    let (start, size) = (text.as_mut_ptr(), text.len());
+    // SAFETY: pointer and count are a slice's, which is borrowed alone.
+    let answer = unsafe { raw::dohvrin_refusal_text(number, left, start, size) };
+    accepted(answer.refusal)?;
+    // Not more than the buffer has.
+    Ok(answer.value as usize)
+}
+
 /// The words of one weight in a path table, two numbers each, by the counts of
 /// its paths. Refusal 10: there is no count of that weight, or the table ends
 /// before the words that the counts tell of.
@@ -252,25 +452,10 @@ impl Event {
     }
 }
 
-/// The order of a record.
-pub fn read_order(bytes: &[u8]) -> Result<Order, Refusal> {
-    // SAFETY: pointer and count are a slice's, which nothing writes meanwhile.
-    let answer = unsafe { raw::dohvrin_read_order(bytes.as_ptr(), bytes.len()) };
-    accepted(answer.refusal)?;
-    let four = [answer.g1, answer.g2, answer.g3, answer.g4];
-    Ok(Order {
-        v: answer.v,
-        bits: answer.bits,
-        m: answer.m,
-        d: answer.d,
-        generators: (0..answer.n).zip(four).map(|(_, g)| g).collect(),
-    })
-}
-
 fn accepted(refusal: u64) -> Result<(), Refusal> {
-    match refusal {
-        0 => Ok(()),
-        number => Err(Refusal(number)),
+    match Refusal::of(refusal, 0) {
+        None => Ok(()),
+        Some(refusal) => Err(refusal),
     }
 }
 

@@ -46,6 +46,17 @@ pub struct Listing {
     pub paths: u64,
 }
 
+/// `struct dohvrin_row`.
+#[repr(C)]
+#[derive(Clone, Copy, Debug, Default, PartialEq, Eq)]
+pub struct Row {
+    pub refusal: u64,
+    pub events: u64,
+    pub paths: u64,
+    pub polynomial: u64,
+    pub left: u64,
+}
+
 /// `struct dohvrin_part`.
 #[repr(C)]
 #[derive(Clone, Copy, Debug, Default, PartialEq, Eq)]
@@ -59,6 +70,7 @@ const _: () = assert!(std::mem::size_of::<Answer>() == 32);
 const _: () = assert!(std::mem::size_of::<OrderAnswer>() == 80);
 const _: () = assert!(std::mem::size_of::<Event>() == 40);
 const _: () = assert!(std::mem::size_of::<Listing>() == 24);
+const _: () = assert!(std::mem::size_of::<Row>() == 40);
 const _: () = assert!(std::mem::size_of::<Part>() == 24);
 
 extern "C" {
@@ -116,5 +128,60 @@ extern "C" {
         count_entries: usize,
         weight: u64,
     ) -> Part;
+    pub fn dohvrin_search(
+        generators: *const u64,
+        count: usize,
+        v: u64,
+        bits: u64,
+        m: u64,
+        d: u64,
+        events: *mut Event,
+        event_entries: usize,
+        paths: *mut u64,
+        path_numbers: usize,
+        plain: *mut u64,
+        plain_entries: usize,
+        undetected: *mut u64,
+        undetected_entries: usize,
+        work: *mut u64,
+        work_numbers: usize,
+    ) -> Row;
+    pub fn dohvrin_count(
+        generators: *const u64,
+        count: usize,
+        v: u64,
+        bits: u64,
+        m: u64,
+        d: u64,
+        polynomial: u64,
+        events: *mut Event,
+        event_entries: usize,
+        paths: *mut u64,
+        path_numbers: usize,
+        plain: *mut u64,
+        plain_entries: usize,
+        undetected: *mut u64,
+        undetected_entries: usize,
+        work: *mut u64,
+        work_numbers: usize,
+    ) -> Listing;
+    pub fn dohvrin_row_text(
+        generators: *const u64,
+        count: usize,
+        v: u64,
+        bits: u64,
+        m: u64,
+        d: u64,
+        events: u64,
+        paths: u64,
+        polynomial: u64,
+        plain: *const u64,
+        plain_entries: usize,
+        undetected: *const u64,
+        undetected_entries: usize,
+        text: *mut u8,
+        size: usize,
+    ) -> Answer;
+    pub fn dohvrin_refusal_text(number: u64, left: u64, text: *mut u8, size: usize) -> Answer;
     pub fn dohvrin_read_order(bytes: *const u8, size: usize) -> OrderAnswer;
 }

@@ -17,30 +17,69 @@ impl fmt::Display for Refusal {
 
 impl fmt::Display for Order {
     fn fmt(&self, f: &mut fmt::Formatter) -> fmt::Result {
-        let n = self.generators().len();
-        let (v, length, m, d) = (
-            self.memory(),
-            self.length(),
-            self.degree(),
-            self.threshold(),
-        );
-        write!(f, "ORDER {n} {v} {length} {m} {d}")?;
-        self.generators()
-            .iter()
-            .try_for_each(|g| write!(f, " {g:o}"))
+        write_order(f, numbers_of(self), self.generators())
     }
 }
 
 impl fmt::Display for Row {
     fn fmt(&self, f: &mut fmt::Formatter) -> fmt::Result {
-        writeln!(f, "{}", self.order)?;
-        writeln!(f, "EVENTS {}", self.events)?;
-        writeln!(f, "PATHS {}", self.paths)?;
-        for (w, (plain, undetected)) in self.plain.iter().zip(&self.undetected).enumerate() {
+        let printed = Printed {
+            numbers: numbers_of(&self.order),
+            generators: self.order.generators(),
+            events: self.events,
+            paths: self.paths,
+            plain: &self.plain,
+            undetected: &self.undetected,
+            polynomial: self.polynomial,
+        };
+        printed.fmt(f)
+    }
+}
+
+/// The numbers of a row, right or not: printing asks nothing.
+#[derive(Clone, Copy, Debug)]
+pub struct Printed<'a> {
+    /// v, N, m and d.
+    pub numbers: [usize; 4],
+    /// The generators.
+    pub generators: &'a [u64],
+    /// How many events are listed.
+    pub events: usize,
+    /// How many paths are listed.
+    pub paths: u128,
+    /// Plain counts by weight.
+    pub plain: &'a [u128],
+    /// Undetected counts by weight.
+    pub undetected: &'a [u128],
+    /// The polynomial.
+    pub polynomial: u64,
+}
+
+impl fmt::Display for Printed<'_> {
+    fn fmt(&self, f: &mut fmt::Formatter) -> fmt::Result {
+        write_order(f, self.numbers, self.generators)?;
+        writeln!(f, "\nEVENTS {}\nPATHS {}", self.events, self.paths)?;
+        for (w, (plain, undetected)) in self.plain.iter().zip(self.undetected).enumerate() {
             writeln!(f, "A {w} {plain} {undetected}")?;
         }
         write!(f, "CRC 0x{:X}", self.polynomial)
     }
+}
+
+/// v, N, m and d.
+fn numbers_of(order: &Order) -> [usize; 4] {
+    [
+        order.memory(),
+        order.length(),
+        order.degree(),
+        order.threshold(),
+    ]
+}
+
+fn write_order(f: &mut fmt::Formatter, numbers: [usize; 4], generators: &[u64]) -> fmt::Result {
+    write!(f, "ORDER {}", generators.len())?;
+    numbers.iter().try_for_each(|x| write!(f, " {x}"))?;
+    generators.iter().try_for_each(|g| write!(f, " {g:o}"))
 }
 
 impl fmt::Display for Event {

@@ -33,6 +33,16 @@ impl Words {
         Some(Words { by_weight })
     }
 
+    /// The words of a list of paths, weight and number each, all of them below
+    /// the threshold.
+    pub fn listed(threshold: usize, paths: &[(u32, u128)]) -> Words {
+        let mut by_weight = vec![Vec::new(); threshold];
+        for &(weight, word) in paths {
+            by_weight[weight as usize].push(word);
+        }
+        Words { by_weight }
+    }
+
     /// The paths: weight and number, ordered by weight, then number.
     pub fn paths(&self) -> Vec<(u32, u128)> {
         let parts = (0..).zip(&self.by_weight);

@@ -1,8 +1,6 @@
 //! `run-rows`: runs a program on stored orders and compares what it prints.
 
-mod cases;
-
-use cases::Case;
+use run_rows::cases::{self, Case};
 use std::io::{self, Write};
 use std::process::{Command, ExitCode, Stdio};
 

@@ -2,7 +2,7 @@
 -- Assumes nothing.
 use Rattle.crc.specs.Check.{appendCall}
 use mathlib.Core.Path.{_≡_, sym, ap, _∙_, subst}
-use Rattle.dohvrin.proofs.Hosts.{append-answer}
+use Rattle.answers.proofs.Hosts.{append-answer}
 use borrow.Author.Needs.{needs}
 use Rattle.dohvrin.proofs.dohvrin_append.Statement.{statement}
 use Rattle.dohvrin.proofs.dohvrin_append.Tie as tie

@@ -46,16 +46,16 @@ use Rattle.events.proofs.collect as collect
 use Rattle.events.proofs.collect.Symbol as collect-def
 use Rattle.events.proofs.collect.Symbol.{name as #events·collect}
 use Rattle.events.proofs.collect.Met as collect-thm
-use Rattle.dohvrin.specs.declared.Answer.{Answer}
-use Rattle.dohvrin.specs.Answers.{eventsAnswer}
-use Rattle.dohvrin.specs.Cases.{ofCollected}
-use Rattle.dohvrin.proofs.Answer as TA
-use Rattle.dohvrin.proofs.Answer.Laws as TA′
-use Rattle.dohvrin.proofs.Hosts.{collect-answer}
-use Rattle.dohvrin.proofs.collected as collected
-use Rattle.dohvrin.proofs.collected.Symbol as collected-def
-use Rattle.dohvrin.proofs.collected.Symbol.{name as #dohvrin·collected}
-use Rattle.dohvrin.proofs.collected.Met as collected-thm
+use Rattle.answers.specs.declared.Answer.{Answer}
+use Rattle.answers.specs.Answers.{eventsAnswer}
+use Rattle.answers.specs.Cases.{ofCollected}
+use Rattle.answers.proofs.Answer as TA
+use Rattle.answers.proofs.Answer.Laws as TA′
+use Rattle.answers.proofs.Hosts.{collect-answer}
+use Rattle.answers.proofs.collected as collected
+use Rattle.answers.proofs.collected.Symbol as collected-def
+use Rattle.answers.proofs.collected.Symbol.{name as #answers·collected}
+use Rattle.answers.proofs.collected.Met as collected-thm
 use Rattle.dohvrin.proofs.dohvrin_collect as exported
 use Rattle.dohvrin.proofs.dohvrin_collect.Key.{name as #dohvrin·dohvrin-collect}
 use Rattle.dohvrin.proofs.dohvrin_collect.Statement as stated
@@ -74,7 +74,7 @@ module _ {M : Type 1} (𝓤 : URA M) (H : Heap 𝓤) (A : Atoms 𝓤) (mem : Mem
 -- the contracts that the proof cites, of the functions in a table
 record Met {M : Type 1} (𝓤 : URA M) (H : Heap 𝓤) (A : Atoms 𝓤) (mem : Memory → SProp 𝓤) (run : Routine → Fun 𝓤) (𝓣 : Tables 𝓤 H) : Type 1 where
   collect-met : Triple 𝓤 (𝓣 .C #events·collect) (Collect 𝓤 H A mem run)
-  tell-met : Triple 𝓤 (𝓣 .C #dohvrin·collected) (Tell 𝓤 H A mem run)
+  tell-met : Triple 𝓤 (𝓣 .C #answers·collected) (Tell 𝓤 H A mem run)
 
 module _ {M : Type 1} (𝓤 : URA M) (H : Heap 𝓤) (A : Atoms 𝓤) (W : Given 𝓤 H A) (mem : Memory → SProp 𝓤) (run : Routine → Fun 𝓤) (κ₀ κ₁ κ₂ : Lft) (q₀ q₁ q₂ : Share) (b₀ o₀ b₁ o₁ b₂ o₂ : ℕ) (γ₀ γ₁ γ₂ : GName) (gs : List ℕ) (v N d : ℕ) (table : List Event) (work : List ℕ)
     (room₀ : Room u64 (length gs)) (gv : v < 2 ^ 64) (gN : N < 2 ^ 64) (gd : d < 2 ^ 64) (room₁ : Room T.the-row (length table)) (room₂ : Room u64 (length work)) where
@@ -154,5 +154,5 @@ dohvrin-collect-spec 𝓤 H 𝓜 𝓖 𝓡 =
     (tables 𝓤 H 𝓜 𝓡 code.env .C) (tables 𝓤 H 𝓜 𝓡 code.env .Λ) #dohvrin·dohvrin-collect code.function (code.unfolded 𝓤 H 𝓜 𝓡)
     (meets 𝓤 H (𝓖 .A) (givenOf 𝓤 H 𝓜 𝓖) (𝓜 .mem) (𝓡 .run) (tablesOf 𝓤 H 𝓜 (tables 𝓤 H 𝓜 𝓡 code.env)) record {
       collect-met = cited 𝓤 H (Collect 𝓤 H (𝓖 .A) (𝓜 .mem) (𝓡 .run)) 𝓜 𝓡 code.env #events·collect collect-def.routine code.calls-events·collect (collect-thm.met 𝓤 H 𝓜 𝓖 𝓡);
-      tell-met = cited 𝓤 H (Tell 𝓤 H (𝓖 .A) (𝓜 .mem) (𝓡 .run)) 𝓜 𝓡 code.env #dohvrin·collected collected-def.routine code.calls-dohvrin·collected (collected-thm.met 𝓤 H 𝓜 𝓖 𝓡);
+      tell-met = cited 𝓤 H (Tell 𝓤 H (𝓖 .A) (𝓜 .mem) (𝓡 .run)) 𝓜 𝓡 code.env #answers·collected collected-def.routine code.calls-answers·collected (collected-thm.met 𝓤 H 𝓜 𝓖 𝓡);
     })

@@ -2,7 +2,7 @@
 -- Assumes nothing.
 use mathlib.Core.Path.{_≡_, refl, sym, ap, _∙_}
 use Rattle.code.specs.Calls.{encodeCall}
-use Rattle.dohvrin.proofs.Hosts.{encode-answer}
+use Rattle.answers.proofs.Hosts.{encode-answer}
 use borrow.Author.Needs.{needs}
 use Rattle.dohvrin.proofs.dohvrin_encode.Statement.{statement}
 use Rattle.dohvrin.proofs.dohvrin_encode.Tie as tie

@@ -46,16 +46,16 @@ use Rattle.listing.proofs.list as list
 use Rattle.listing.proofs.list.Symbol as list-def
 use Rattle.listing.proofs.list.Symbol.{name as #listing·list}
 use Rattle.listing.proofs.list.Met as list-thm
-use Rattle.dohvrin.specs.declared.ListAnswer.{ListAnswer}
-use Rattle.dohvrin.specs.Answers.{pathsAnswer}
-use Rattle.dohvrin.specs.Cases.{ofListed}
-use Rattle.dohvrin.proofs.ListAnswer as TA
-use Rattle.dohvrin.proofs.ListAnswer.Laws as TA′
-use Rattle.dohvrin.proofs.Hosts.{list-answer}
-use Rattle.dohvrin.proofs.listed as listed
-use Rattle.dohvrin.proofs.listed.Symbol as listed-def
-use Rattle.dohvrin.proofs.listed.Symbol.{name as #dohvrin·listed}
-use Rattle.dohvrin.proofs.listed.Met as listed-thm
+use Rattle.answers.specs.declared.ListAnswer.{ListAnswer}
+use Rattle.answers.specs.Answers.{pathsAnswer}
+use Rattle.answers.specs.Cases.{ofListed}
+use Rattle.answers.proofs.ListAnswer as TA
+use Rattle.answers.proofs.ListAnswer.Laws as TA′
+use Rattle.answers.proofs.Hosts.{list-answer}
+use Rattle.answers.proofs.listed as listed
+use Rattle.answers.proofs.listed.Symbol as listed-def
+use Rattle.answers.proofs.listed.Symbol.{name as #answers·listed}
+use Rattle.answers.proofs.listed.Met as listed-thm
 use Rattle.dohvrin.proofs.dohvrin_list as exported
 use Rattle.dohvrin.proofs.dohvrin_list.Key.{name as #dohvrin·dohvrin-list}
 use Rattle.dohvrin.proofs.dohvrin_list.Statement as stated
@@ -74,7 +74,7 @@ module _ {M : Type 1} (𝓤 : URA M) (H : Heap 𝓤) (A : Atoms 𝓤) (mem : Mem
 -- the contracts that the proof cites, of the functions in a table
 record Met {M : Type 1} (𝓤 : URA M) (H : Heap 𝓤) (A : Atoms 𝓤) (mem : Memory → SProp 𝓤) (run : Routine → Fun 𝓤) (𝓣 : Tables 𝓤 H) : Type 1 where
   list-met : Triple 𝓤 (𝓣 .C #listing·list) (List′ 𝓤 H A mem run)
-  tell-met : Triple 𝓤 (𝓣 .C #dohvrin·listed) (Tell 𝓤 H A mem run)
+  tell-met : Triple 𝓤 (𝓣 .C #answers·listed) (Tell 𝓤 H A mem run)
 
 module _ {M : Type 1} (𝓤 : URA M) (H : Heap 𝓤) (A : Atoms 𝓤) (W : Given 𝓤 H A) (mem : Memory → SProp 𝓤) (run : Routine → Fun 𝓤) (κ₀ κ₁ κ₂ κ₃ κ₄ : Lft) (q₀ q₁ q₂ q₃ q₄ : Share) (b₀ o₀ b₁ o₁ b₂ o₂ b₃ o₃ b₄ o₄ : ℕ) (γ₀ γ₁ γ₂ γ₃ γ₄ : GName) (gs : List ℕ) (v N d : ℕ) (es : List Event) (ls cs work : List ℕ)
     (room₀ : Room u64 (length gs)) (gv : v < 2 ^ 64) (gN : N < 2 ^ 64) (gd : d < 2 ^ 64) (room₁ : Room T.the-row (length es)) (room₂ : Room u64 (length ls)) (room₃ : Room u64 (length cs)) (room₄ : Room u64 (length work)) where
@@ -184,5 +184,5 @@ dohvrin-list-spec 𝓤 H 𝓜 𝓖 𝓡 =
     (tables 𝓤 H 𝓜 𝓡 code.env .C) (tables 𝓤 H 𝓜 𝓡 code.env .Λ) #dohvrin·dohvrin-list code.function (code.unfolded 𝓤 H 𝓜 𝓡)
     (meets 𝓤 H (𝓖 .A) (givenOf 𝓤 H 𝓜 𝓖) (𝓜 .mem) (𝓡 .run) (tablesOf 𝓤 H 𝓜 (tables 𝓤 H 𝓜 𝓡 code.env)) record {
       list-met = cited 𝓤 H (List′ 𝓤 H (𝓖 .A) (𝓜 .mem) (𝓡 .run)) 𝓜 𝓡 code.env #listing·list list-def.routine code.calls-listing·list (list-thm.met 𝓤 H 𝓜 𝓖 𝓡);
-      tell-met = cited 𝓤 H (Tell 𝓤 H (𝓖 .A) (𝓜 .mem) (𝓡 .run)) 𝓜 𝓡 code.env #dohvrin·listed listed-def.routine code.calls-dohvrin·listed (listed-thm.met 𝓤 H 𝓜 𝓖 𝓡);
+      tell-met = cited 𝓤 H (Tell 𝓤 H (𝓖 .A) (𝓜 .mem) (𝓡 .run)) 𝓜 𝓡 code.env #answers·listed listed-def.routine code.calls-answers·listed (listed-thm.met 𝓤 H 𝓜 𝓖 𝓡);
     })

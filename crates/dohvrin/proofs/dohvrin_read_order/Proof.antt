@@ -1,8 +1,8 @@
 -- The call, and its answer as hosts see it.
 -- Assumes nothing.
 use mathlib.Core.Path.{_≡_, refl, sym, ap, _∙_}
-use Rattle.dohvrin.proofs.Hosts.{order-told}
-use Rattle.dohvrin.specs.Cases.{ofReading}
+use Rattle.answers.proofs.Hosts.{order-told}
+use Rattle.answers.specs.Cases.{ofReading}
 use borrow.Author.Needs.{needs}
 use Rattle.dohvrin.proofs.dohvrin_read_order.Statement.{statement}
 use Rattle.dohvrin.proofs.dohvrin_read_order.Tie as tie

@@ -2,7 +2,7 @@
 -- Assumes nothing.
 use Rattle.crc.specs.Check.{stripCall}
 use mathlib.Core.Path.{_≡_, sym, ap, _∙_, subst}
-use Rattle.dohvrin.proofs.Hosts.{strip-answer}
+use Rattle.answers.proofs.Hosts.{strip-answer}
 use borrow.Author.Needs.{needs}
 use Rattle.dohvrin.proofs.dohvrin_strip.Statement.{statement}
 use Rattle.dohvrin.proofs.dohvrin_strip.Tie as tie

@@ -2,7 +2,7 @@
 -- Assumes nothing.
 use mathlib.Core.Path.{_≡_, refl, sym, ap, _∙_}
 use Rattle.crc.specs.Check.{testCall}
-use Rattle.dohvrin.proofs.Hosts.{test-answer}
+use Rattle.answers.proofs.Hosts.{test-answer}
 use borrow.Author.Needs.{needs}
 use Rattle.dohvrin.proofs.dohvrin_test.Statement.{statement}
 use Rattle.dohvrin.proofs.dohvrin_test.Tie as tie

@@ -2,7 +2,7 @@
 -- Assumes nothing.
 use mathlib.Core.Path.{_≡_, refl, sym, ap, _∙_}
 use Rattle.code.specs.Calls.{weighCall}
-use Rattle.dohvrin.proofs.Hosts.{weigh-answer}
+use Rattle.answers.proofs.Hosts.{weigh-answer}
 use borrow.Author.Needs.{needs}
 use Rattle.dohvrin.proofs.dohvrin_weigh.Statement.{statement}
 use Rattle.dohvrin.proofs.dohvrin_weigh.Tie as tie

@@ -10,15 +10,16 @@
 //! plain Rust is the second tool, which was written to be read: its product
 //! looks at all 64 bits of a generator, and its encoder returns a new vector,
 //! where the library fills an output that it is lent. A collection is a turn
-//! by itself, into one lent table, and so is a listing; the plain Rust is
-//! `plain` and `chains`.
+//! by itself, into one lent table, and so are a listing and a search; the plain
+//! Rust is `plain`, `chains` and `choice`.
 
 mod chains;
+mod choice;
 mod clock;
 mod plain;
 
 use clock::nanoseconds;
-use dohvrin::{Event, WORK};
+use dohvrin::{Event, Searched, WORK};
 use dso_ref::link::{self, Code};
 
 const TURNS: usize = 101;
@@ -47,6 +48,59 @@ fn main() {
     println!("ms a listing: median (middle half of the turns)");
     list(5, &GENERATORS, MEMORY, 70, 18, 15_852, 1_940_785);
     list(5, &[0o561, 0o753], 8, 76, 21, 5_079_947, 882_816);
+    println!("ms a search: median (middle half of the turns)");
+    search(5, &GENERATORS, MEMORY, 70, 6, 18, [15_852, 1_940_785], 0x63);
+    let generators = [0o561, 0o753];
+    search(5, &generators, 8, 76, 12, 21, [5_079_947, 882_816], 0x1565);
+}
+
+/// Times both on one order; its tables are exactly full.
+#[allow(clippy::too_many_arguments)]
+fn search(
+    turns: usize,
+    generators: &[u64],
+    v: u64,
+    bits: u64,
+    m: u64,
+    d: u64,
+    [events, paths]: [usize; 2],
+    polynomial: u64,
+) {
+    let mut table = vec![Event::default(); events];
+    let (mut numbers, mut words) = (vec![0; 2 * paths], vec![0; paths]);
+    let (mut counts, mut undetected) = (vec![0; d as usize], vec![0; d as usize]);
+    let mut work = vec![0; WORK];
+    let name = format!("{}, m {m}", order_name(generators, bits, d));
+    let mut ours = |table: &mut [Event], counts: &mut [u64], undetected: &mut [u64]| {
+        let (gs, numbers, work) = (keep(generators), &mut numbers[..], &mut work[..]);
+        dohvrin::search(gs, v, bits, m, d, table, numbers, counts, undetected, work)
+    };
+    let mut theirs = |table: &mut [Event], counts: &mut [u64], undetected: &mut [u64]| {
+        let (gs, words) = (keep(generators), &mut words[..]);
+        choice::search(gs, v, bits, m, d, table, words, counts, undetected)
+    };
+    // A time is worth nothing where the two do not do the same.
+    let found = ours(&mut table, &mut counts, &mut undetected);
+    let row = Searched::Found {
+        events,
+        paths,
+        polynomial,
+    };
+    assert_eq!(found, Ok(row), "{name}");
+    let counted = (counts.clone(), undetected.clone());
+    let found = theirs(&mut table, &mut counts, &mut undetected);
+    assert_eq!(found, Some((paths, polynomial)), "{name}");
+    assert!(
+        counted == (counts.clone(), undetected.clone()),
+        "{name}: the counts differ"
+    );
+    let mut ratios = Ratios::default();
+    for _ in 0..turns {
+        let library = milliseconds(|| ours(&mut table, &mut counts, &mut undetected));
+        let plain = milliseconds(|| theirs(&mut table, &mut counts, &mut undetected));
+        ratios.push(library, plain);
+    }
+    ratios.print(&name);
 }
 
 /// Times both on one order; its tables are exactly full.

@@ -35,7 +35,7 @@ pub fn append(inputs: u64) -> Tally {
         let (low, high) = dohvrin::halves(i.word);
         // SAFETY: numbers alone.
         let answer = unsafe { raw::dohvrin_append(i.bits, i.m, i.polynomial, low, high) };
-        let safe = dohvrin::append(i.bits, i.m, i.polynomial, i.word).map_err(|no| no.0);
+        let safe = dohvrin::append(i.bits, i.m, i.polynomial, i.word).map_err(|no| no.number());
         let same = answer == expected && safe == plain;
         tally.count(expected.refusal, same, || {
             format!("{i:?}: library {answer:?} {safe:?}, second tool {expected:?}")
@@ -67,7 +67,7 @@ pub fn strip(inputs: u64) -> Tally {
         let (low, high) = dohvrin::halves(i.word);
         // SAFETY: numbers alone.
         let answer = unsafe { raw::dohvrin_strip(i.bits, i.m, i.polynomial, low, high) };
-        let safe = dohvrin::strip(i.bits, i.m, i.polynomial, i.word).map_err(|no| no.0);
+        let safe = dohvrin::strip(i.bits, i.m, i.polynomial, i.word).map_err(|no| no.number());
         let plain = plain.map(|stripped| match stripped {
             link::Stripped::Message(message) => dohvrin::Stripped::Message(message),
             link::Stripped::Remainder(rest) => dohvrin::Stripped::Damaged(rest),
@@ -96,7 +96,7 @@ pub fn test(inputs: u64) -> Tally {
         let (low, high) = dohvrin::halves(i.word);
         // SAFETY: numbers alone.
         let answer = unsafe { raw::dohvrin_test(i.bits, i.m, i.polynomial, low, high) };
-        let safe = dohvrin::test(i.bits, i.m, i.polynomial, i.word).map_err(|no| no.0);
+        let safe = dohvrin::test(i.bits, i.m, i.polynomial, i.word).map_err(|no| no.number());
         let same = answer == expected && safe == plain;
         if expected.value != 0 {
             tally.count_kind();

@@ -52,7 +52,7 @@ pub fn weigh(inputs: u64) -> Tally {
         let start = i.generators.as_ptr();
         // SAFETY: `count` is at most the array's size.
         let answer = unsafe { raw::dohvrin_weigh(start, i.count, i.v, i.bits, low, high) };
-        let safe = dohvrin::weigh(i.given(), i.v, i.bits, i.word).map_err(|no| no.0);
+        let safe = dohvrin::weigh(i.given(), i.v, i.bits, i.word).map_err(|no| no.number());
         let same = answer == expected && safe == plain;
         tally.count(expected.refusal, same, || {
             format!("{i:?}: library {answer:?} {safe:?}, second tool {expected:?}")
@@ -124,7 +124,7 @@ fn encode_safe(i: &Input, before: usize, room: usize) -> (u64, Vec<u8>) {
     let mut bytes = guarded(before, &vec![FILL; room]);
     let output = &mut bytes[before..before + room];
     let answer = dohvrin::encode(i.given(), i.v, i.bits, i.word, output);
-    (answer.err().map_or(0, |no| no.0), bytes)
+    (answer.err().map_or(0, |no| no.number()), bytes)
 }
 
 /// None, one short, exact, longer, or any.

@@ -181,7 +181,10 @@ impl Lent {
         let table = &mut self.table[GUARDS..GUARDS + call.entries];
         let work = &mut self.work[GUARDS..GUARDS + call.work];
         let answer = dohvrin::collect(i.given(), i.v, i.bits, call.d, table, work);
-        (answer.map_err(|no| no.0), self.is_left(call, expected))
+        (
+            answer.map_err(|no| no.number()),
+            self.is_left(call, expected),
+        )
     }
 
     /// Whether the call left what it should: the events and zeros, zeros, or

@@ -15,12 +15,12 @@ use dso_ref::{events, link, listing};
 
 /// The entries on either side of an event table, and the numbers around each
 /// of the other tables.
-const GUARDS: usize = 9;
+pub const GUARDS: usize = 9;
 /// Events and paths that are listed for any order.
-const EVENTS: usize = 3000;
-const PATHS: usize = 3000;
+pub const EVENTS: usize = 3000;
+pub const PATHS: usize = 3000;
 /// Events and paths of an order of any length whose whole tables are compared.
-const MANY: usize = 1 << 17;
+pub const MANY: usize = 1 << 17;
 /// Steps that the second tool takes without a cut, at most, in a small order.
 const STEPS: usize = 1 << 15;
 
@@ -33,24 +33,24 @@ struct Call {
 }
 
 #[derive(Clone, Copy, Debug)]
-struct Sizes {
-    events: usize,
+pub struct Sizes {
+    pub events: usize,
     /// Numbers, two a path.
-    paths: usize,
-    counts: usize,
-    work: usize,
+    pub paths: usize,
+    pub counts: usize,
+    pub work: usize,
 }
 
 /// The tables to be left, or a refusal.
-type Expected<'a> = Result<&'a Tables, u64>;
+pub type Expected<'a> = Result<&'a Tables, u64>;
 
 /// Any inputs, right and damaged, of any length.
 pub fn list(inputs: u64) -> Tally {
     let mut random = Random::new(0x115794);
     let mut tally = Tally::new("list", &[3, 4, 5, 7, 8, 9, 10, 13, 14]);
     for _ in 0..inputs {
-        let mut call = draw(&mut random);
-        let Call { input, d, lent } = call;
+        let (input, d, lent) = draw(&mut random);
+        let mut call = Call { input, d, lent };
         if let Err(no) = listing::ask(input.code(), size(d), lent.counts, lent.work) {
             call.lent.events = random.index(EVENTS);
             call.lent.paths = random.index(2 * PATHS);
@@ -93,12 +93,7 @@ pub fn small_tables(orders: u64) -> Tally {
             12
         };
         let (input, d) = draw_small(&mut random, most as u64);
-        let code = input.code();
-        let events = events::walked(code, size(d), STEPS)
-            .or_else(|| events::collect(code, size(d), usize::MAX, WORK).ok())
-            .expect("a right code");
-        let paths = listing::list(code, size(d), usize::MAX).expect("a right code");
-        let tables = Tables::new(input, d, events.iter().map(entry_of).collect(), paths);
+        let tables = Tables::small(input, d);
         if tables.counts[0] > 0 {
             tally.count_kind();
         }
@@ -204,16 +199,27 @@ fn large(
 }
 
 /// What is to be listed of a right code.
-struct Tables {
-    input: Input,
-    d: u64,
-    events: Vec<Event>,
-    words: Vec<u128>,
-    counts: Vec<u64>,
+pub struct Tables {
+    pub input: Input,
+    pub d: u64,
+    pub events: Vec<Event>,
+    pub words: Vec<u128>,
+    pub counts: Vec<u64>,
 }
 
 impl Tables {
-    fn new(input: Input, d: u64, events: Vec<Event>, paths: Vec<(u32, u128)>) -> Tables {
+    /// Of a small order: its events without a cut, where they are few enough
+    /// for that, and its paths among all words one by one.
+    pub fn small(input: Input, d: u64) -> Tables {
+        let code = input.code();
+        let events = events::walked(code, size(d), STEPS)
+            .or_else(|| events::collect(code, size(d), usize::MAX, WORK).ok())
+            .expect("a right code");
+        let paths = listing::list(code, size(d), usize::MAX).expect("a right code");
+        Tables::new(input, d, events.iter().map(entry_of).collect(), paths)
+    }
+
+    pub fn new(input: Input, d: u64, events: Vec<Event>, paths: Vec<(u32, u128)>) -> Tables {
         let counts = listing::counts_of(size(d), &paths);
         Tables {
             input,
@@ -225,7 +231,7 @@ impl Tables {
     }
 
     /// The sizes of tables that are exactly full.
-    fn sizes(&self) -> Sizes {
+    pub fn sizes(&self) -> Sizes {
         Sizes {
             events: self.events.len(),
             paths: 2 * self.words.len(),
@@ -249,7 +255,7 @@ impl Tables {
     }
 
     /// What is left in tables of these sizes: question 10, then 13, then 14.
-    fn within(&self, lent: Sizes) -> Expected<'_> {
+    pub fn within(&self, lent: Sizes) -> Expected<'_> {
         let full = self.sizes();
         if lent.counts < full.counts || lent.work < full.work {
             Err(10)
@@ -265,7 +271,7 @@ impl Tables {
 
 /// Tables exactly full, odd, larger and far larger; then each too small, empty
 /// or one short, and some of them at the same time.
-fn draw_sizes(random: &mut Random, tables: &Tables) -> Vec<Sizes> {
+pub fn draw_sizes(random: &mut Random, tables: &Tables) -> Vec<Sizes> {
     let full = tables.sizes();
     let Sizes {
         events,
@@ -402,36 +408,53 @@ impl Lent {
             &mut self.counts[GUARDS..GUARDS + lent.counts],
             &mut self.work[GUARDS..GUARDS + lent.work],
         );
-        (answer.map_err(|no| no.0), self.is_left(call, expected))
+        (
+            answer.map_err(|no| no.number()),
+            self.is_left(call, expected),
+        )
     }
 
-    /// Whether the call left what it should: the lists and zeros, zeros, or
-    /// nothing changed; and in any case the guards.
+    /// Whether the call left what it should.
     fn is_left(&self, call: &Call, expected: Expected) -> bool {
+        let left = Left {
+            events: &self.events,
+            paths: &self.paths,
+            counts: &self.counts,
+            work: &self.work,
+        };
         let changed = matches!(expected, Ok(_) | Err(13 | 14));
-        let listed = expected.ok();
-        let Sizes {
-            events,
-            paths,
-            counts,
-            work,
-        } = call.lent;
+        left.is(call.lent, changed, expected.ok())
+    }
+}
+
+/// Four tables among guards after a call.
+pub struct Left<'a> {
+    pub events: &'a [Event],
+    pub paths: &'a [u64],
+    pub counts: &'a [u64],
+    pub work: &'a [u64],
+}
+
+impl Left<'_> {
+    /// Whether they hold what they should: the lists and zeros, zeros, or
+    /// nothing changed; and in any case the guards.
+    pub fn is(&self, lent: Sizes, changed: bool, listed: Option<&Tables>) -> bool {
         let event = |k: usize| listed.and_then(|t| t.events.get(k)).copied();
         let path = |k: usize| {
             let word = listed.and_then(|t| t.words.get(k / 2));
             word.map(|word| (word >> (64 * (k % 2))) as u64)
         };
         let count = |k: usize| listed.and_then(|t| t.counts.get(k)).copied();
-        is_left(&self.events, events, changed, event, any_event)
-            && is_left(&self.paths, paths, changed, path, any_number)
-            && is_left(&self.counts, counts, changed, count, any_number)
-            && is_left(&self.work, work, changed, |_| None, any_number)
+        is_left(self.events, lent.events, changed, event, any_event)
+            && is_left(self.paths, lent.paths, changed, path, any_number)
+            && is_left(self.counts, lent.counts, changed, count, any_number)
+            && is_left(self.work, lent.work, changed, |_| None, any_number)
     }
 }
 
 /// Whether a table of so many entries among guards holds what is listed and
 /// zeros after it, or what it held before where it must not be changed.
-fn is_left<T: PartialEq + Default>(
+pub fn is_left<T: PartialEq + Default>(
     table: &[T],
     entries: usize,
     changed: bool,
@@ -447,7 +470,7 @@ fn is_left<T: PartialEq + Default>(
 
 /// Code, threshold, counts and work area right or damaged; the sizes of the
 /// two other tables come later.
-fn draw(random: &mut Random) -> Call {
+pub fn draw(random: &mut Random) -> (Input, u64, Sizes) {
     let d = match random.within(0, 15) {
         0 => random.pick(&[0, 65, 66, 128]),
         1 => random.huge(5),
@@ -467,20 +490,17 @@ fn draw(random: &mut Random) -> Call {
         2..=9 => enough,
         _ => enough + random.index(40),
     };
-    Call {
-        input: codes::draw(random),
-        d,
-        lent: Sizes {
-            events: 0,
-            paths: 0,
-            counts,
-            work,
-        },
-    }
+    let lent = Sizes {
+        events: 0,
+        paths: 0,
+        counts,
+        work,
+    };
+    (codes::draw(random), d, lent)
 }
 
 /// None, one short, exact, or larger where that may be.
-fn draw_size(random: &mut Random, exact: usize, larger: bool) -> usize {
+pub fn draw_size(random: &mut Random, exact: usize, larger: bool) -> usize {
     match random.within(0, 15) {
         0 => 0,
         1 | 2 => exact.saturating_sub(1),
@@ -492,7 +512,7 @@ fn draw_size(random: &mut Random, exact: usize, larger: bool) -> usize {
 /// A right code of at most `most` steps, and a threshold. Every fourth has no
 /// more steps than memory; every third has generators with a common factor,
 /// most often x+1, of which the word of all ones weighs nothing.
-fn draw_small(random: &mut Random, most: u64) -> (Input, u64) {
+pub fn draw_small(random: &mut Random, most: u64) -> (Input, u64) {
     let mut input = codes::right(random);
     input.bits = match random.within(0, 3) {
         0 => input.v,
@@ -550,7 +570,7 @@ pub fn part(inputs: u64) -> Tally {
         let (start, entries) = (counts.as_ptr(), counts.len());
         // SAFETY: pointers and sizes are those of two vectors.
         let answer = unsafe { raw::dohvrin_part(table, numbers, start, entries, weight) };
-        let safe = dohvrin::part(&paths, &counts, weight).map_err(|no| no.0);
+        let safe = dohvrin::part(&paths, &counts, weight).map_err(|no| no.number());
         let same = answer == expected && safe == plain.map(|part| &paths[part]);
         if expected.numbers > 0 {
             tally.count_kind();

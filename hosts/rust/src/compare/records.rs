@@ -11,12 +11,13 @@ pub fn read_order(inputs: u64) -> Tally {
     let mut random = Random::new(0x0DE8);
     let mut tally = Tally::new("read_order", &[1, 2, 3, 4, 5, 6, 7, 8, 9]);
     for _ in 0..inputs {
-        let (bytes, size) = draw(&mut random);
+        let bytes = right(&mut random);
+        let (bytes, size) = damaged(&mut random, bytes);
         let plain = Order::from_record(&bytes[..size]).map_err(number);
         let expected = answer_of(&plain);
         // SAFETY: `size` is at most the bytes' number.
         let answer = unsafe { raw::dohvrin_read_order(bytes.as_ptr(), size) };
-        let safe = dohvrin::read_order(&bytes[..size]).map_err(|no| no.0);
+        let safe = dohvrin::Order::from_record(&bytes[..size]).map_err(|no| no.number());
         let same = answer == expected && safe == plain.map(order_of);
         tally.count(expected.refusal, same, || {
             let shown = &bytes[..size.min(40)];
@@ -52,19 +53,19 @@ fn answer_of(plain: &Result<Order, u64>) -> OrderAnswer {
 }
 
 fn order_of(order: Order) -> dohvrin::Order {
-    dohvrin::Order {
-        v: order.memory() as u64,
-        bits: order.length() as u64,
-        m: order.degree() as u64,
-        d: order.threshold() as u64,
-        generators: order.generators().to_vec(),
-    }
+    dohvrin::Order::new(
+        order.generators(),
+        order.memory() as u64,
+        order.length() as u64,
+        order.degree() as u64,
+        order.threshold() as u64,
+    )
+    .expect("both accept it")
 }
 
-/// Bytes, and how many of them are given; the others stand behind those in
-/// memory and must not matter.
-fn draw(random: &mut Random) -> (Vec<u8>, usize) {
-    let mut bytes = right(random);
+/// A right record or what became of it, and how many of the bytes are given;
+/// the others stand behind those in memory and must not matter.
+pub fn damaged(random: &mut Random, mut bytes: Vec<u8>) -> (Vec<u8>, usize) {
     let mut size = bytes.len();
     match random.within(0, 23) {
         0..=5 => {}
@@ -114,6 +115,12 @@ fn right(random: &mut Random) -> Vec<u8> {
     let length = random.length(v.max(2));
     let m = random.within(1, 12.min(length - 1));
     let d = random.within(1, 64);
+    record(random, [v, length, m, d])
+}
+
+/// The record of v, N, m and d with any right generators.
+pub fn record(random: &mut Random, numbers: [u64; 4]) -> Vec<u8> {
+    let [v, length, m, d] = numbers;
     let n = 2 + random.index(3);
     let mut generators: Vec<u16> = (0..n)
         .map(|_| random.within(1, (2 << v) - 1) as u16)

@@ -1,0 +1,282 @@
+// What hosts are told: each answer of the library as a struct, since an exported function cannot return an enum.
+// What is `pub` here is for the crate above; docs/DECISIONS.md lists it as internal.
+ghost use mathlib.Core.Path.{_≡_};
+ghost use Prim.Native.Nat.{_^_, _<_};
+ghost use lib.ListN.{getD};
+ghost use Rattle.order.specs.Answers.{recordOf};
+ghost use Rattle.search.specs.Calls.{orderWith};
+ghost use Rattle.answers.specs.Cases.{ofAppended, ofStripped, ofTested, ofWeighed, ofEncoded, ofCollected, ofListed, ofSearched, ofRecord, ofReading, ofWritten};
+use code::Encoded;
+use code::Weighed;
+use crc::Appended;
+use crc::Stripped;
+use crc::Tested;
+use events::Collected;
+use listing::Listed;
+use order::record::OrderRecord;
+use order::record::Reading;
+use search::Searched;
+use text::Written;
+
+// What a call answers: the number of the refusal or 0, one number, and one word in two halves. What a call does not use is 0.
+#[repr(C)]
+pub struct Answer {
+    pub refusal: u64,
+    pub value: u64,
+    pub low: u64,
+    pub high: u64,
+}
+
+// An order as a record gives it, or the number of the refusal and zeros.
+#[repr(C)]
+pub struct OrderAnswer {
+    pub refusal: u64,
+    pub n: u64,
+    pub v: u64,
+    pub bits: u64,
+    pub m: u64,
+    pub d: u64,
+    pub g1: u64,
+    pub g2: u64,
+    pub g3: u64,
+    pub g4: u64,
+}
+
+// How many events and paths were listed, or the number of the refusal and zeros.
+#[repr(C)]
+pub struct ListAnswer {
+    pub refusal: u64,
+    pub events: u64,
+    pub paths: u64,
+}
+
+// How many events and paths were listed, and the best polynomial; or the number of the refusal and zeros, for 15 also how many are left.
+#[repr(C)]
+pub struct SearchAnswer {
+    pub refusal: u64,
+    pub events: u64,
+    pub paths: u64,
+    pub polynomial: u64,
+    pub left: u64,
+}
+
+// Where the words of one weight stand in the caller's path table: their first number, and how many numbers; or refusal 10 and zeros.
+#[repr(C)]
+pub struct PartAnswer {
+    pub refusal: u64,
+    pub start: u64,
+    pub numbers: u64,
+}
+
+// A word in its halves.
+fn word_answer(low: u64, high: u64) -> Answer
+    ensures { λ r. ⌜ r ≡ record { refusal = 0; value = 0; low = low; high = high } ⌝ }
+{
+    Answer {
+        refusal: 0,
+        value: 0,
+        low,
+        high,
+    }
+}
+
+// A refusal, or a number.
+fn number_answer(refusal: u64, value: u64) -> Answer
+    ensures { λ r. ⌜ r ≡ record { refusal = refusal; value = value; low = 0; high = 0 } ⌝ }
+{
+    Answer {
+        refusal,
+        value,
+        low: 0,
+        high: 0,
+    }
+}
+
+pub fn appended(a: Appended) -> Answer
+    ensures { λ r. ⌜ (r ≡ ofAppended a) × (r .low < 2 ^ 64) ⌝ }
+{
+    match a {
+        Appended::Whole(w) => word_answer(w.low, w.high),
+        Appended::Refused(k) => number_answer(k, 0),
+    }
+}
+
+pub fn stripped(a: Stripped) -> Answer
+    ensures { λ r. ⌜ (r ≡ ofStripped a) × (r .low < 2 ^ 64) ⌝ }
+{
+    match a {
+        Stripped::Message(w) => word_answer(w.low, w.high),
+        Stripped::Damaged(r) => number_answer(0, r),
+        Stripped::Refused(k) => number_answer(k, 0),
+    }
+}
+
+pub fn tested(a: Tested) -> Answer
+    ensures { λ r. ⌜ r ≡ ofTested a ⌝ }
+{
+    match a {
+        Tested::Divisible => number_answer(0, 1),
+        Tested::Indivisible => number_answer(0, 0),
+        Tested::Refused(k) => number_answer(k, 0),
+    }
+}
+
+pub fn weighed(a: Weighed) -> Answer
+    ensures { λ r. ⌜ r ≡ ofWeighed a ⌝ }
+{
+    match a {
+        Weighed::Weight(w) => number_answer(0, w),
+        Weighed::Refused(k) => number_answer(k, 0),
+    }
+}
+
+pub fn encoded(a: Encoded) -> u64
+    ensures { λ r. ⌜ r ≡ ofEncoded a ⌝ }
+{
+    match a {
+        Encoded::Done => 0,
+        Encoded::Refused(k) => k,
+    }
+}
+
+// What the collection answers hosts: the number of events, or the refusal.
+pub fn collected(a: Collected) -> Answer
+    ensures { λ r. ⌜ r ≡ ofCollected a ⌝ }
+{
+    match a {
+        Collected::Events(n) => number_answer(0, n),
+        Collected::Refused(k) => number_answer(k, 0),
+    }
+}
+
+fn list_answer(refusal: u64, events: u64, paths: u64) -> ListAnswer
+    ensures { λ r. ⌜ r ≡ record { refusal = refusal; events = events; paths = paths } ⌝ }
+{
+    ListAnswer {
+        refusal,
+        events,
+        paths,
+    }
+}
+
+pub fn listed(a: Listed) -> ListAnswer
+    ensures { λ r. ⌜ r ≡ ofListed a ⌝ }
+{
+    match a {
+        Listed::Paths(events, paths) => list_answer(0, events, paths),
+        Listed::Refused(k) => list_answer(k, 0, 0),
+    }
+}
+
+fn search_answer(refusal: u64, events: u64, paths: u64, polynomial: u64, left: u64) -> SearchAnswer
+    ensures { λ r. ⌜ r ≡ record { refusal = refusal; events = events; paths = paths; polynomial = polynomial; left = left } ⌝ }
+{
+    SearchAnswer {
+        refusal,
+        events,
+        paths,
+        polynomial,
+        left,
+    }
+}
+
+pub fn searched(a: Searched) -> SearchAnswer
+    ensures { λ r. ⌜ r ≡ ofSearched a ⌝ }
+{
+    match a {
+        Searched::Found(events, paths, polynomial) => search_answer(
+            0,
+            events,
+            paths,
+            polynomial,
+            0,
+        ),
+        Searched::Refused(k) => search_answer(k, 0, 0, 0, 0),
+        Searched::Tied(left) => search_answer(15, 0, 0, 0, left),
+    }
+}
+
+pub fn part_answer(refusal: u64, start: u64, numbers: u64) -> PartAnswer
+    ensures { λ r. ⌜ r ≡ record { refusal = refusal; start = start; numbers = numbers } ⌝ }
+{
+    PartAnswer {
+        refusal,
+        start,
+        numbers,
+    }
+}
+
+fn order_answer(refusal: u64, o: OrderRecord) -> OrderAnswer
+    ensures { λ r. ⌜ r ≡ ofRecord refusal o ⌝ }
+{
+    OrderAnswer {
+        refusal,
+        n: o.n,
+        v: o.v,
+        bits: o.bits,
+        m: o.m,
+        d: o.d,
+        g1: o.g1,
+        g2: o.g2,
+        g3: o.g3,
+        g4: o.g4,
+    }
+}
+
+// Generator i; 0 past the last.
+fn generator_at(generators: &[u64], i: usize) -> u64
+    ensures { λ r. ⌜ r ≡ getD (now (generators .entry)) i 0 ⌝ }
+{
+    if i < generators.len() {
+        return generators[i];
+    }
+    0
+}
+
+// An order as its record struct has it.
+pub fn record_of(generators: &[u64], v: u64, bits: u64, m: u64, d: u64) -> OrderRecord
+    ensures { λ r. ⌜ r ≡ recordOf (orderWith (now (generators .entry)) v bits m d) ⌝ }
+{
+    OrderRecord {
+        n: generators.len() as u64,
+        v,
+        bits,
+        m,
+        d,
+        g1: generator_at(generators, 0),
+        g2: generator_at(generators, 1),
+        g3: generator_at(generators, 2),
+        g4: generator_at(generators, 3),
+    }
+}
+
+pub fn written(a: Written) -> Answer
+    ensures { λ r. ⌜ r ≡ ofWritten a ⌝ }
+{
+    match a {
+        Written::Bytes(n) => number_answer(0, n),
+        Written::Refused(k) => number_answer(k, 0),
+    }
+}
+
+pub fn reading(a: Reading) -> OrderAnswer
+    ensures { λ r. ⌜ r ≡ ofReading a ⌝ }
+{
+    match a {
+        Reading::Order(o) => order_answer(0, o),
+        Reading::Refused(k) => order_answer(
+            k,
+            OrderRecord {
+                n: 0,
+                v: 0,
+                bits: 0,
+                m: 0,
+                d: 0,
+                g1: 0,
+                g2: 0,
+                g3: 0,
+                g4: 0,
+            },
+        ),
+    }
+}

@@ -1,0 +1,78 @@
+-- The candidates are the polynomials of degree m with constant term 1: as numbers, those from 2^m up to 2^(m+1) that are odd. There are
+-- 2^(m-1) of them, by number.
+-- Assumes nothing.
+use Prim.Native.Nat.{ℕ, zero, suc, _+_, _-_, _*_, _/_, _%_, _^_, _≤_, _<_}
+use native.Mathlib.Nat.{pow-succ', one-le-pow, pow-le-pow-right, div-eq-of-lt-le, div-add-mod', mod-lt}
+use native.Mathlib.Omega.{arith}
+use mathlib.Core.Path.{_≡_, sym, ap, _∙_, subst}
+use mathlib.Core.Logic.{_↔_}
+use mathlib.Core.List.{List·Memᴰ, Memᴰ·of-map, Memᴰ·map, Memᴰ·cast}
+use lib.ListN.{length}
+use Rattle.lists.specs.Lists.{upFrom}
+use Rattle.lists.proofs.Member.{upFrom-bounds, in-upFrom}
+use Rattle.lists.proofs.Lengths.{length-map-upFrom}
+use Rattle.lists.proofs.Sorted.{Sorted, upFrom-sorted, map-sorted}
+use Rattle.choice.specs.Choice.{candidates}
+
+-- degree m and constant term 1
+abbrev pub IsCandidate : ℕ → ℕ → Type 0
+IsCandidate m p = (p / 2 ^ m ≡ 1) × (p % 2 ≡ 1)
+
+pub power-small : (m : ℕ) → m ≤ 12 → 2 ^ m ≤ 4096
+power-small m h = pow-le-pow-right (omega arith) h
+
+pub few-candidates : (m : ℕ) → m ≤ 12 → 2 ^ (m - 1) ≤ 2048
+few-candidates m h = let e : m - 1 ≤ 11 = omega arith in pow-le-pow-right (omega arith) e
+
+twice-half-power : (m : ℕ) → 1 ≤ m → 2 ^ m ≡ 2 * 2 ^ (m - 1)
+twice-half-power zero h = absurd (omega arith)
+twice-half-power (suc n) h = pow-succ' 2 n ∙ ap (λ k. 2 * 2 ^ k) less
+  where
+    less : n ≡ suc n - 1
+    less = omega arith
+
+-- candidate k, by its number
+pub candidate-number : (m p : ℕ) → List·Memᴰ p (candidates m) → (k : ℕ) × (k < 2 ^ (m - 1)) × (2 ^ m + 2 * k + 1 ≡ p)
+unfolding candidates
+candidate-number m p member =
+    let h = Memᴰ·of-map (λ k. 2 ^ m + 2 * k + 1) (upFrom 0 (2 ^ (m - 1))) member in
+    let b = upFrom-bounds 0 (2 ^ (m - 1)) (h .1) in
+    (h .0, omega arith, h .2)
+
+pub candidate-member : (m k : ℕ) → k < 2 ^ (m - 1) → List·Memᴰ (2 ^ m + 2 * k + 1) (candidates m)
+unfolding candidates
+candidate-member m k h = Memᴰ·map (λ k. 2 ^ m + 2 * k + 1) (in-upFrom 0 (2 ^ (m - 1)) (omega arith) (omega arith))
+
+module _ (m : ℕ) (positive : 1 ≤ m) where
+  numbered : (k : ℕ) → k < 2 ^ (m - 1) → IsCandidate m (2 ^ m + 2 * k + 1)
+  numbered k h =
+      let twice = twice-half-power m positive in
+      (div-eq-of-lt-le (2 ^ m) (omega arith) (omega arith), omega arith)
+
+  pub degree-of : (p k n : ℕ) → n ≡ 2 ^ (m - 1) → k < n → p ≡ 2 ^ m + 2 * k + 1 → p / 2 ^ m ≡ 1
+  degree-of p k n all h e = ap (λ x. x / 2 ^ m) e ∙ numbered k (omega arith) .0
+
+  numberOf : (p : ℕ) → IsCandidate m p → (k : ℕ) × (k < 2 ^ (m - 1)) × (2 ^ m + 2 * k + 1 ≡ p)
+  numberOf p c =
+      let twice = twice-half-power m positive in
+      let whole : 1 * 2 ^ m + p % 2 ^ m ≡ p = rw (c .0) at (div-add-mod' p (2 ^ m)) in
+      let rest : p % 2 ^ m < 2 ^ m = mod-lt p (one-le-pow m 2 (omega arith)) in
+      ((p - 2 ^ m) / 2, omega arith, omega arith)
+
+  pub of-candidates : (p : ℕ) → List·Memᴰ p (candidates m) → IsCandidate m p
+  of-candidates p member = let h = candidate-number m p member in subst (IsCandidate m) (h .2) (numbered (h .0) (h .1))
+
+  pub in-candidates : (p : ℕ) → IsCandidate m p → List·Memᴰ p (candidates m)
+  in-candidates p c = let h = numberOf p c in Memᴰ·cast (sym (h .2)) (candidate-member m (h .0) (h .1))
+
+  pub mem-candidates : (p : ℕ) → List·Memᴰ p (candidates m) ↔ IsCandidate m p
+  mem-candidates p = (of-candidates p, in-candidates p)
+
+pub candidates-sorted : (m : ℕ) → Sorted _<_ (candidates m)
+unfolding candidates
+candidates-sorted m =
+    map-sorted _<_ _<_ (λ k. 2 ^ m + 2 * k + 1) (λ k k′ h. omega arith) (upFrom 0 (2 ^ (m - 1))) (upFrom-sorted 0 (2 ^ (m - 1)))
+
+pub length-candidates : (m : ℕ) → length (candidates m) ≡ 2 ^ (m - 1)
+unfolding candidates
+length-candidates m = length-map-upFrom (λ k. 2 ^ m + 2 * k + 1) 0 (2 ^ (m - 1))

@@ -1,0 +1,149 @@
+-- When every candidate has been met, the flags that are up are those of the candidates that none betters, and the best counts are theirs.
+-- Assumes nothing.
+use Prim.Native.Nat.{ℕ, _+_, _-_, _*_, _^_, _≤_, _<_}
+use native.Mathlib.Nat.{zero-add, one-le-pow}
+use native.Mathlib.Decide.{decLt}
+use native.Mathlib.Omega.{arith}
+use mathlib.Core.Path.{_≡_, refl, sym, ap, _∙_, subst}
+use mathlib.Core.Bool.{Bool, true, false, not}
+use mathlib.Core.Logic.{_⊎_, ⊎-elim}
+use mathlib.Core.List.{List, [], _∷_, map, map-map, List·Memᴰ, List·Memᴰ·head, List·Memᴰ·not-nil}
+use lib.Dec.{T, T-not, not-T}
+use lib.ListN.{length, getD, length-map}
+use lib.Seq.{ext-getD}
+use Rattle.lists.specs.Lists.{upFrom, filter, padded}
+use Rattle.lists.proofs.Tests.{true-of-T, false-of-T-not}
+use Rattle.lists.proofs.Member.{upFrom-bounds, of-filter, in-filter, mem-not-any}
+use Rattle.lists.proofs.Lengths.{getD-map-upFrom, length-padded, getD-padded-inside, getD-padded-after}
+use Rattle.choice.specs.Choice.{candidates, fewer}
+use Rattle.choice.specs.Steps.{unbettered, bestBy, firstOf, flagsLeft, aliveBelow}
+use Rattle.choice.proofs.Candidates.{few-candidates, candidate-number, candidate-member, length-candidates}
+use Rattle.choice.proofs.Flags.{filter-cong-on, filter-map}
+use Rattle.choice.proofs.Leader.{leader, Alive, not-itself, leader-member, leader-least, level-or-worse}
+
+firstOf-member : {p : ℕ} (l : List ℕ) → List·Memᴰ p l → List·Memᴰ (firstOf l) l
+unfolding firstOf
+firstOf-member [] member = absurd (List·Memᴰ·not-nil member)
+firstOf-member (q ∷ l) member = List·Memᴰ·head refl
+
+module _ (m : ℕ) (counts : ℕ → List ℕ) where
+  -- the counts of candidate k
+  abbrev pub countsOf : ℕ → List ℕ
+  countsOf k = counts (2 ^ m + 2 * k + 1)
+
+  -- p is bettered by none
+  abbrev left : ℕ → Bool
+  left p = unbettered counts (candidates m) p
+
+  map-candidates : {A : Type 0} (g : ℕ → A) → map g (candidates m) ≡ map (λ k. g (2 ^ m + 2 * k + 1)) (upFrom 0 (2 ^ (m - 1)))
+  unfolding candidates
+  map-candidates g = map-map g (λ k. 2 ^ m + 2 * k + 1) (upFrom 0 (2 ^ (m - 1)))
+
+  -- ---- who is bettered by none
+
+  of-unbettered : (p : ℕ) → T (left p) → (j : ℕ) → j < 2 ^ (m - 1) → T (not (fewer (countsOf j) (counts p)))
+  unfolding unbettered
+  of-unbettered p t j h = mem-not-any (λ q. fewer (counts q) (counts p)) (candidates m) .0 t (2 ^ m + 2 * j + 1) (candidate-member m j h)
+
+  in-unbettered : (p : ℕ) → ((j : ℕ) → j < 2 ^ (m - 1) → T (not (fewer (countsOf j) (counts p)))) → T (left p)
+  unfolding unbettered
+  in-unbettered p none =
+      mem-not-any (λ q. fewer (counts q) (counts p)) (candidates m) .1
+      (λ q member. let h = candidate-number m q member in subst (λ (x : ℕ). T (not (fewer (counts x) (counts p)))) (h .2) (none (h .0) (h .1)))
+
+  module _ (d : ℕ) (sized : (p : ℕ) → length (counts p) ≡ d) where
+    -- the best of all candidates
+    abbrev last : List ℕ
+    last = leader countsOf (2 ^ (m - 1))
+
+    sized-of : (j : ℕ) → length (countsOf j) ≡ d
+    sized-of j = sized (2 ^ m + 2 * j + 1)
+
+    last-least : (j : ℕ) → j < 2 ^ (m - 1) → T (not (fewer (countsOf j) last))
+    last-least = leader-least countsOf d sized-of (2 ^ (m - 1))
+
+    -- one of them has it
+    last-member : (i : ℕ) × (i < 2 ^ (m - 1)) × (last ≡ countsOf i)
+    last-member = leader-member countsOf d sized-of (2 ^ (m - 1)) (one-le-pow (m - 1) 2 (omega arith))
+
+    module _ (j : ℕ) (h : j < 2 ^ (m - 1)) where
+      level-unbettered : last ≡ countsOf j → T (left (2 ^ m + 2 * j + 1))
+      level-unbettered e =
+          in-unbettered (2 ^ m + 2 * j + 1) (λ i l. subst (λ (a : List ℕ). T (not (fewer (countsOf i) a))) e (last-least i l))
+
+      worse-bettered : T (fewer last (countsOf j)) → T (left (2 ^ m + 2 * j + 1)) → ⊥
+      worse-bettered t u =
+          let i = last-member in
+          T-not (fewer (countsOf (i .0)) (countsOf j)) (of-unbettered (2 ^ m + 2 * j + 1) u (i .0) (i .1))
+          (subst (λ (a : List ℕ). T (fewer a (countsOf j))) (i .2) t)
+
+      -- level with the best, or worse
+      level-or-bettered : (last ≡ countsOf j) ⊎ T (fewer last (countsOf j))
+      level-or-bettered = level-or-worse countsOf d sized-of (2 ^ (m - 1)) j h
+
+      level-flag : not (fewer last (countsOf j)) ≡ left (2 ^ m + 2 * j + 1)
+      level-flag =
+          ⊎-elim
+          (λ e.
+          true-of-T (not (fewer last (countsOf j))) (subst (λ (a : List ℕ). T (not (fewer last a))) e (not-itself last))
+          ∙ sym (true-of-T (left (2 ^ m + 2 * j + 1)) (level-unbettered e)))
+          (λ t.
+          ap not (true-of-T (fewer last (countsOf j)) t)
+          ∙ sym (false-of-T-not (left (2 ^ m + 2 * j + 1)) (not-T (left (2 ^ m + 2 * j + 1)) (worse-bettered t))))
+          level-or-bettered
+
+    -- ---- the first that is left has the best counts
+
+    pub some-left : (p : ℕ) × List·Memᴰ p (bestBy counts (candidates m))
+    unfolding bestBy
+    some-left =
+        let i = last-member in
+        (2 ^ m + 2 * i .0 + 1, in-filter left (candidates m) (candidate-member m (i .0) (i .1)) (level-unbettered (i .0) (i .1) (i .2)))
+
+    pub best-counts : counts (firstOf (bestBy counts (candidates m))) ≡ last
+    unfolding bestBy
+    best-counts =
+        let ps : List ℕ = candidates m in
+        let first = of-filter left ps (firstOf-member (filter left ps) (some-left .1)) in
+        let j = candidate-number m (firstOf (filter left ps)) (first .0) in
+        let stands : T (left (2 ^ m + 2 * j .0 + 1)) = subst (λ (p : ℕ). T (left p)) (sym (j .2)) (first .1) in
+        ap counts (sym (j .2)) ∙ ⊎-elim sym (λ t. absurd (worse-bettered (j .0) (j .1) t stands)) (level-or-bettered (j .0) (j .1))
+
+    -- ---- the flags in the end
+
+    flags-length : length (map left (candidates m)) ≡ 2 ^ (m - 1)
+    flags-length = length-map (candidates m) left ∙ length-candidates m
+
+    flag-at : (j : ℕ) → j < 2 ^ (m - 1) → getD (map left (candidates m)) j false ≡ left (2 ^ m + 2 * j + 1)
+    flag-at j h =
+        ap (λ (l : List Bool). getD l j false) (map-candidates left) ∙ getD-map-upFrom (λ k. left (2 ^ m + 2 * k + 1)) 0 (2 ^ (m - 1)) j false h
+        ∙ ap (λ (k : ℕ). left (2 ^ m + 2 * k + 1)) (zero-add j)
+
+    module _ (small : m ≤ 12) where
+      few : length (map left (candidates m)) ≤ 2048
+      few = omega (arith, flags-length, few-candidates m small)
+
+      flagsLeft-at : (j : ℕ) → j < 2 ^ (m - 1) → getD (flagsLeft m counts) j false ≡ left (2 ^ m + 2 * j + 1)
+      unfolding flagsLeft
+      flagsLeft-at j h = getD-padded-inside 2048 true (map left (candidates m)) j false (omega (arith, flags-length)) ∙ flag-at j h
+
+      pub alive-end : (alive : List Bool) → Alive countsOf (2 ^ (m - 1)) alive → alive ≡ flagsLeft m counts
+      unfolding flagsLeft
+      alive-end alive h =
+          let flags : List Bool = map left (candidates m) in
+          ext-getD false alive (padded 2048 true flags) (h .size ∙ sym (length-padded 2048 true flags few)) (λ j l. by j l (decLt j (2 ^ (m - 1))))
+        where
+          by : (j : ℕ) → j < length alive → Dec (j < 2 ^ (m - 1)) → getD alive j false ≡ getD (padded 2048 true (map left (candidates m))) j false
+          by j l (yes a) = h .before j a ∙ level-flag j a ∙ sym (flagsLeft-at j a)
+          by j l (no b) =
+              h .after j (omega arith) (omega (arith, h .size))
+              ∙ sym (getD-padded-after 2048 true (map left (candidates m)) j false (omega (arith, flags-length)) (omega (arith, h .size)))
+
+      -- the candidates that are left are those whose flags are up
+      pub left-alive : bestBy counts (candidates m) ≡ map (λ k. 2 ^ m + 2 * k + 1) (aliveBelow (flagsLeft m counts) (2 ^ (m - 1)))
+      unfolding bestBy aliveBelow candidates
+      left-alive =
+          filter-map left (λ k. 2 ^ m + 2 * k + 1) (upFrom 0 (2 ^ (m - 1)))
+          ∙ ap (map (λ k. 2 ^ m + 2 * k + 1))
+          (filter-cong-on (λ k. left (2 ^ m + 2 * k + 1)) (λ k. getD (flagsLeft m counts) k false) (upFrom 0 (2 ^ (m - 1)))
+          (λ k member. let b = upFrom-bounds 0 (2 ^ (m - 1)) member in sym (flagsLeft-at k (omega arith))))

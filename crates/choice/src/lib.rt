@@ -1,0 +1,137 @@
+// The choice: every candidate is compared with the best so far, weight by weight, and drops out at the first weight where another counts fewer.
+// What is `pub` here is for the crate above; docs/DECISIONS.md lists it as internal.
+ghost use mathlib.Core.Path.{_≡_};
+ghost use Prim.Native.Nat.{_+_, _-_, _*_, _^_, _≤_, _<_};
+ghost use lib.ListN.{length, take};
+ghost use Rattle.undetected.specs.Steps.{Readable, dividedCounts};
+ghost use Rattle.choice.specs.Steps.{dropped, aliveBelow, firstOf, LeftAlive, Chose};
+use parity::check_table;
+use poly::word::power;
+use undetected::count_from;
+use undetected::count_up_to;
+
+// How many candidates are left, and the first of them.
+pub struct Outcome {
+    pub left: u64,
+    pub polynomial: u64,
+}
+
+// Candidate k of degree m: its constant term is 1.
+fn candidate(m: u64, k: usize) -> u64
+    requires { ⌜ (1 ≤ m) × (m ≤ 12) × (k < 2 ^ (m - 1)) ⌝ }
+    ensures { λ r. ⌜ r ≡ 2 ^ m + 2 * k + 1 ⌝ }
+{
+    power(m) + 2 * k as u64 + 1
+}
+
+// Those before k drop out.
+fn drop_before(alive: [bool; 2048], k: usize) -> [bool; 2048]
+    requires { ⌜ k ≤ 2048 ⌝ }
+    ensures { λ r. ⌜ r ≡ dropped k alive ⌝ }
+{
+    let mut left = alive;
+    let mut j = 0;
+    while j < k {
+        left[j] = false;
+        j += 1;
+    }
+    left
+}
+
+// The candidates still alive after the last weight. The undetected list comes with the counts of candidate 0 and is left with the best.
+fn compare(
+    table: &[u64],
+    plain: &[u64],
+    undetected: &mut [u64],
+    bits: u64,
+    m: u64,
+    d: usize,
+    n: usize,
+) -> [bool; 2048]
+    requires { ⌜ Readable bits d (now table) (now plain) × (1 ≤ m) × (m ≤ 12) × (n ≡ 2 ^ (m - 1)) × (d ≤ length (now undetected)) ⌝ }
+    requires { ⌜ take d (now undetected) ≡ dividedCounts m (now table) (now plain) d (2 ^ m + 1) ⌝ }
+    ensures { λ r. ⌜ LeftAlive m d (now (table .entry)) (now (plain .entry)) (now (undetected .entry)) (now (undetected .exit)) r ⌝ }
+{
+    let mut alive = [true; 2048];
+    let mut k = 1;
+    'candidates: while k < n {
+        let p = candidate(m, k);
+        let rows = check_table(bits, m, p);
+        let mut at = 0;
+        let mut w = 0;
+        while w < d {
+            let next = at + plain[w] as usize;
+            let best = undetected[w];
+            let found = count_up_to(table, at, next, &rows, m, best);
+            if best < found {
+                alive[k] = false;
+                k += 1;
+                continue 'candidates;
+            }
+            if found < best {
+                alive = drop_before(alive, k);
+                count_from(table, plain, undetected, bits, m, p, w, d, at);
+                k += 1;
+                continue 'candidates;
+            }
+            at = next;
+            w += 1;
+        }
+        k += 1;
+    }
+    alive
+}
+
+// How many of the first n are alive.
+fn count_alive(alive: &[bool; 2048], n: usize) -> u64
+    requires { ⌜ n ≤ 2048 ⌝ }
+    ensures { λ r. ⌜ r ≡ length (aliveBelow (now (alive .entry)) n) ⌝ }
+{
+    let mut left = 0;
+    let mut k = 0;
+    while k < n {
+        if alive[k] {
+            left += 1;
+        }
+        k += 1;
+    }
+    left
+}
+
+// The first of the first n that is alive, 0 where none is.
+fn first_alive(alive: &[bool; 2048], n: usize) -> usize
+    requires { ⌜ n ≤ 2048 ⌝ }
+    ensures { λ r. ⌜ r ≡ firstOf (aliveBelow (now (alive .entry)) n) ⌝ }
+{
+    let mut k = 0;
+    while k < n {
+        if alive[k] {
+            return k;
+        }
+        k += 1;
+    }
+    0
+}
+
+// The best of all candidates of degree m, by the words of a path table and the plain counts of d weights; its counts are left in the undetected list.
+pub fn choose(
+    table: &[u64],
+    plain: &[u64],
+    undetected: &mut [u64],
+    bits: u64,
+    m: u64,
+    d: usize,
+) -> Outcome
+    requires { ⌜ Readable bits d (now table) (now plain) × (1 ≤ m) × (m ≤ 12) × (d ≤ length (now undetected)) ⌝ }
+    ensures { λ r. ⌜ Chose m d (now (table .entry)) (now (plain .entry)) (now (undetected .entry)) (now (undetected .exit)) r ⌝ }
+{
+    let n = power(m - 1) as usize;
+    count_from(table, plain, undetected, bits, m, candidate(m, 0), 0, d, 0);
+    let alive = compare(table, plain, undetected, bits, m, d, n);
+    let left = count_alive(&alive, n);
+    let first = first_alive(&alive, n);
+    Outcome {
+        left,
+        polynomial: candidate(m, first),
+    }
+}

@@ -1,0 +1,4 @@
+pub mod Ones
+pub mod Divided
+pub mod Rows
+pub mod Checks

@@ -1,0 +1,29 @@
+-- The parity checks of a polynomial p of degree m, for words of N bits: the rows of its parity-check matrix. Row i has a 1 at place j where x^j has
+-- a 1 at bit i of its remainder. So p divides a word exactly when the word has an even number of ones at the places of every row: `proofs/Divided.antt`.
+-- Assumes nothing.
+use Prim.Native.Nat.{ℕ, _+_, _*_, _%_, _^_}
+use mathlib.Core.Bool.{Bool}
+use mathlib.Core.List.{List, map, flatMap}
+use lib.Bits.{bitAnd}
+use lib.Count.{ones}
+use lib.Dec.{eqb}
+use lib.ListN.{getD}
+use Rattle.lists.specs.Lists.{upFrom, all, padded}
+use Rattle.poly.specs.Poly.{bit, fromBits, _⊕_, remainder}
+use Rattle.poly.specs.Word.{halves}
+
+-- row i, as a word
+unfoldable pub checkRow : ℕ → ℕ → ℕ → ℕ → ℕ
+checkRow N m p i = fromBits N (λ j. bit i (remainder m p (2 ^ j)))
+
+-- the m rows, two numbers a row, low half first, and zeros after them
+unfoldable pub checkTable : ℕ → ℕ → ℕ → List ℕ
+checkTable N m p = padded 24 0 (flatMap halves (map (checkRow N m p) (upFrom 0 m)))
+
+-- the word with these halves has an even number of ones at the places of row i
+unfoldable pub even : List ℕ → ℕ → ℕ → ℕ → Bool
+even rows low high i = eqb (ones (bitAnd low (getD rows (2 * i) 0) ⊕ bitAnd high (getD rows (2 * i + 1) 0)) % 2) 0
+
+-- of each of the m rows
+unfoldable pub allEven : List ℕ → ℕ → ℕ → ℕ → Bool
+allEven rows m low high = all (even rows low high) (upFrom 0 m)

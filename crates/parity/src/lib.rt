@@ -1,0 +1,77 @@
+// The parity checks of a polynomial. They are made once and then tell of any number of words whether the polynomial divides them, most often by the
+// first row or two; a division would take a step for each bit.
+ghost use mathlib.Core.Path.{_≡_};
+ghost use Prim.Native.Nat.{_+_, _*_, _^_, _<_, _≤_};
+ghost use Rattle.poly.specs.Poly.{HasDegree};
+ghost use Rattle.poly.specs.Word.{number};
+ghost use Rattle.parity.specs.Parity.{checkRow, checkTable, allEven};
+use poly::register::times_x;
+use poly::word::Word;
+use poly::word::make;
+
+// The word with bit j set to b above the bits that it has.
+fn with_bit(w: Word, j: u64, b: u64) -> Word
+    requires { ⌜ (j < 128) × (b < 2) × (number w < 2 ^ j) ⌝ }
+    ensures { λ r. ⌜ number r ≡ b * 2 ^ j + number w ⌝ }
+{
+    if j < 64 {
+        return Word {
+            low: w.low + (b << j),
+            high: w.high,
+        };
+    }
+    Word {
+        low: w.low,
+        high: w.high + (b << (j - 64)),
+    }
+}
+
+// Row i for words of n bits.
+fn check_row(n: u64, m: u64, p: u64, i: u64) -> Word
+    requires { ⌜ (n ≤ 128) × (1 ≤ m) × (m ≤ 12) × HasDegree m p × (i < 12) ⌝ }
+    ensures { λ r. ⌜ number r ≡ checkRow n m p i ⌝ }
+{
+    let mut row = make(0, 0);
+    let mut power = 1;
+    let mut j = 0;
+    while j < n {
+        row = with_bit(row, j, (power >> i) % 2);
+        power = times_x(power, m, p);
+        j += 1;
+    }
+    row
+}
+
+// The m rows for words of n bits, low half first.
+pub fn check_table(n: u64, m: u64, p: u64) -> [u64; 24]
+    requires { ⌜ (n ≤ 128) × (1 ≤ m) × (m ≤ 12) × HasDegree m p ⌝ }
+    ensures { λ r. ⌜ r ≡ checkTable n m p ⌝ }
+{
+    let mut rows = [0; 24];
+    let mut i = 0;
+    while i < m {
+        let row = check_row(n, m, p, i);
+        let at = 2 * i as usize;
+        rows[at] = row.low;
+        rows[at + 1] = row.high;
+        i += 1;
+    }
+    rows
+}
+
+// Whether the word with these halves has an even number of ones at the places of each of the m rows: the polynomial divides it.
+pub fn all_even(rows: &[u64; 24], m: u64, low: u64, high: u64) -> bool
+    requires { ⌜ m ≤ 12 ⌝ }
+    ensures { λ r. ⌜ r ≡ allEven (now (rows .entry)) m low high ⌝ }
+{
+    let mut i = 0;
+    while i < m {
+        let at = 2 * i as usize;
+        let common = (low & rows[at]) ^ (high & rows[at + 1]);
+        if u64::count_ones(common) % 2 == 1 {
+            return false;
+        }
+        i += 1;
+    }
+    true
+}

@@ -1,0 +1,4 @@
+pub mod Local
+pub mod Read
+pub mod Shown
+pub mod Samples

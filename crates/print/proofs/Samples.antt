@@ -1,0 +1,40 @@
+-- What is printed for document 01's record and for no bytes at all, by computation.
+-- Assumes nothing.
+use mathlib.Core.Path.{_≡_, refl}
+use mathlib.Core.List.{[], _∷_, flatMap}
+use lib.Count.{onesIn, ones}
+use Rattle.lists.specs.Lists.{upFrom, filter, count, all, any, padded}
+use Rattle.poly.specs.Poly.{bit, _⊕_, digitsThrough, horner, _⊗_, register, remainder}
+use Rattle.code.specs.Weight.{output, weight}
+use Rattle.code.specs.Trellis.{next, tapped, stepOutput, stepWeight, walkWeight, firstMeets}
+use Rattle.order.specs.Questions.{firstNo, from-to, inRange, hasBit, workSize, orderNumbers, generatorQuestions}
+use Rattle.order.specs.Order.{be16, readGenerators, readFields, lengthRight, versionRight, countRight, recordQuestions, orderQuestions, reading, read}
+use Rattle.events.specs.Events.{listed, eventsOfLength, eventsOfState, events, entry, noEvent, eventTable}
+use Rattle.poly.specs.Word.{halves}
+use Rattle.paths.specs.Paths.{words, wordsOfWeight, weights, paths, plainCounts, pathTable, pathRoom}
+use Rattle.undetected.specs.Undetected.{passes, undetectedCount, undetectedCounts}
+use Rattle.choice.specs.Choice.{candidates, fewer, betters, best, choiceOf, choice}
+use Rattle.listing.specs.Calls as Listing
+use Rattle.search.specs.Calls.{allCleared, filled, searchQuestions, fitting, asked, chosen, searchCall}
+use Rattle.text.specs.Text.{digit, digits, numeral, decimal, octal, hexadecimal, line, wORDER, wEVENTS, wPATHS, wA, wCRC, wNO, orderLine, countLine, rowText, refusalText}
+use Rattle.print.specs.Printed.{lent, printedRow, printedSearch, printedReading, printed}
+
+-- 00 0A 01 02 01 04 02 06 00 01 00 03
+document-printed : printed (0 ∷ 10 ∷ 1 ∷ 2 ∷ 1 ∷ 4 ∷ 2 ∷ 6 ∷ 0 ∷ 1 ∷ 0 ∷ 3 ∷ [])
+    ≡ 79 ∷ 82 ∷ 68 ∷ 69 ∷ 82 ∷ 32 ∷ 50 ∷ 32 ∷ 49 ∷ 32 ∷ 52 ∷ 32 ∷ 50 ∷ 32 ∷ 54 ∷ 32 ∷ 49 ∷ 32 ∷ 51 ∷ 10
+    ∷ 69 ∷ 86 ∷ 69 ∷ 78 ∷ 84 ∷ 83 ∷ 32 ∷ 53 ∷ 10
+    ∷ 80 ∷ 65 ∷ 84 ∷ 72 ∷ 83 ∷ 32 ∷ 49 ∷ 51 ∷ 10
+    ∷ 65 ∷ 32 ∷ 48 ∷ 32 ∷ 48 ∷ 32 ∷ 48 ∷ 10
+    ∷ 65 ∷ 32 ∷ 49 ∷ 32 ∷ 48 ∷ 32 ∷ 48 ∷ 10
+    ∷ 65 ∷ 32 ∷ 50 ∷ 32 ∷ 48 ∷ 32 ∷ 48 ∷ 10
+    ∷ 65 ∷ 32 ∷ 51 ∷ 32 ∷ 52 ∷ 32 ∷ 48 ∷ 10
+    ∷ 65 ∷ 32 ∷ 52 ∷ 32 ∷ 53 ∷ 32 ∷ 49 ∷ 10
+    ∷ 65 ∷ 32 ∷ 53 ∷ 32 ∷ 52 ∷ 32 ∷ 48 ∷ 10
+    ∷ 67 ∷ 82 ∷ 67 ∷ 32 ∷ 48 ∷ 120 ∷ 53 ∷ 10 ∷ []
+unfolding flatMap onesIn ones upFrom filter count all any padded bit _⊕_ digitsThrough horner _⊗_ register remainder output weight next tapped stepOutput stepWeight walkWeight firstMeets firstNo from-to inRange hasBit workSize orderNumbers generatorQuestions orderQuestions listed eventsOfLength eventsOfState events entry noEvent eventTable words wordsOfWeight weights paths plainCounts halves pathTable pathRoom passes undetectedCount undetectedCounts candidates fewer betters best choiceOf choice Listing.cleared Listing.allCleared Listing.filled allCleared filled searchQuestions fitting asked chosen searchCall digit digits numeral decimal octal hexadecimal line wORDER wEVENTS wPATHS wA wCRC orderLine countLine rowText be16 readGenerators readFields lengthRight versionRight countRight recordQuestions reading read lent printedRow printedSearch printedReading printed
+document-printed = refl
+
+-- NO 1
+nothing-printed : printed [] ≡ 78 ∷ 79 ∷ 32 ∷ 49 ∷ 10 ∷ []
+unfolding flatMap firstNo be16 lengthRight recordQuestions reading read digit digits numeral decimal line wNO refusalText printedReading printed
+nothing-printed = refl

@@ -1,0 +1,19 @@
+-- The counts of all weights: from weight 0, whose words begin at place 0.
+-- Assumes nothing.
+use borrow.Author.Needs.{needs}
+use Prim.Native.Nat.{zero-le}
+use Rattle.paths.proofs.Parts.{sum-none}
+use Rattle.search.proofs.counts_of.Statement.{statement}
+use Rattle.search.proofs.counts_of.Tie as tie
+
+count-from-requires : tie.Need-count-from-requires
+count-from-requires c κs = let p = c .before .before .before .before .pre in (p .0, p .1, zero-le, p .2, sum-none _)
+
+same-length : tie.Need-same-length
+same-length c = search needs
+
+returns : tie.Need-returns
+returns c = search needs
+
+pub counts-of-spec : {M : Type 1} → statement M
+counts-of-spec = tie.close (tie.spec count-from-requires same-length returns)

@@ -1,0 +1,6 @@
+pub mod Puts
+pub mod Numerals
+pub mod Pieces
+pub mod Sizes
+pub mod Calls
+pub mod Samples

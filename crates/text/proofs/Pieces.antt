@@ -1,0 +1,73 @@
+-- The lines of a text, piece by piece, as the code puts them.
+-- Assumes nothing.
+use Prim.Native.Nat.{ℕ, _+_, _≤_, _<_}
+use native.Mathlib.Numerals.{add-one}
+use native.Mathlib.Omega.{arith}
+use mathlib.Core.Path.{_≡_, ap, ap₂, _∙_}
+use mathlib.Core.Bool.{Bool, cond}
+use mathlib.Core.List.{List, [], _∷_, _++_, map, flatMap, append-nil, append-assoc}
+use borrow.Author.Tests.{eq-eqb, ne-eqb}
+use lib.ListN.{length, getD, take}
+use lib.Seq.{take-suc, length-take-le}
+use Rattle.lists.specs.Lists.{upFrom}
+use Rattle.lists.proofs.Lengths.{upFrom-last}
+use Rattle.lists.proofs.Blocks.{flatMap-one, flatMap-append, flatMap-map}
+use Rattle.order.specs.declared.record.OrderRecord.{OrderRecord}
+use Rattle.text.specs.Text.{numeral, decimal, octal, hexadecimal, line, wORDER, wCRC, wNO, orderLine, refusalText}
+use Rattle.text.specs.Calls.{orderIn}
+use Rattle.text.specs.Steps.{spaced}
+
+-- ---- blocks one after another: one more
+
+module _ (f : ℕ → List ℕ) where
+  pub list-more : (xs : List ℕ) (i : ℕ) → i < length xs → flatMap f (take (i + 1) xs) ≡ flatMap f (take i xs) ++ f (getD xs i 0)
+  list-more xs i h =
+      ap (flatMap f) (ap (λ (k : ℕ). take k xs) (add-one i) ∙ take-suc xs i 0 h) ∙ flatMap-append f (take i xs) (getD xs i 0 ∷ [])
+      ∙ ap (λ (l : List ℕ). flatMap f (take i xs) ++ l) (flatMap-one f (getD xs i 0))
+
+  pub range-more : (w : ℕ) → flatMap f (upFrom 0 (w + 1)) ≡ flatMap f (upFrom 0 w) ++ f w
+  range-more w =
+      ap (flatMap f) (ap (upFrom 0) (add-one w) ∙ upFrom-last 0 w) ∙ flatMap-append f (upFrom 0 w) ((0 + w) ∷ [])
+      ∙ ap (λ (l : List ℕ). flatMap f (upFrom 0 w) ++ l) (flatMap-one f (0 + w) ∙ ap f zero-first)
+    where
+      zero-first : 0 + w ≡ w
+      zero-first = omega arith
+
+-- ---- the lines
+
+pub decimal-line : (first numbers : List ℕ) → line first (map decimal numbers) ≡ first ++ (spaced 10 numbers ++ (10 ∷ []))
+unfolding line decimal spaced
+decimal-line first numbers = ap (λ (l : List ℕ). first ++ (l ++ (10 ∷ []))) (flatMap-map (λ w. 32 ∷ w) decimal numbers)
+
+-- CRC 0x
+pub polynomial-line : (p : ℕ) → line wCRC (hexadecimal p ∷ []) ≡ (67 ∷ 82 ∷ 67 ∷ 32 ∷ 48 ∷ 120 ∷ []) ++ (numeral 16 p ++ (10 ∷ []))
+unfolding line wCRC hexadecimal flatMap
+polynomial-line p = ap (λ (l : List ℕ). 67 ∷ 82 ∷ 67 ∷ 32 ∷ 48 ∷ 120 ∷ (l ++ (10 ∷ []))) (append-nil (numeral 16 p))
+
+pub order-line : (o : OrderRecord) → o .n ≤ 4
+    → orderLine (orderIn o) ≡ wORDER ++ (spaced 10 (o .n ∷ o .v ∷ o .bits ∷ o .m ∷ o .d ∷ []) ++ (spaced 8 (take (o .n) (o .g1 ∷ o .g2 ∷ o .g3 ∷ o .g4 ∷ [])) ++ (10 ∷ [])))
+unfolding orderLine line decimal octal spaced
+order-line o h =
+    ap (λ (l : List ℕ). wORDER ++ (l ++ (10 ∷ []))) words ∙ ap (λ (l : List ℕ). wORDER ++ l) (append-assoc (spaced 10 (numbers (o .n))) (spaced 8 generators) (10 ∷ []))
+  where
+    generators : List ℕ
+    generators = take (o .n) (o .g1 ∷ o .g2 ∷ o .g3 ∷ o .g4 ∷ [])
+
+    numbers : ℕ → List ℕ
+    numbers n = n ∷ o .v ∷ o .bits ∷ o .m ∷ o .d ∷ []
+
+    words : flatMap (λ w. 32 ∷ w) (map decimal (numbers (length generators)) ++ map octal generators) ≡ spaced 10 (numbers (o .n)) ++ spaced 8 generators
+    words =
+        flatMap-append (λ w. 32 ∷ w) (map decimal (numbers (length generators))) (map octal generators)
+        ∙ ap₂ _++_ (flatMap-map (λ w. 32 ∷ w) decimal (numbers (length generators)) ∙ ap (λ (n : ℕ). spaced 10 (numbers n)) (length-take-le (o .n) _ h))
+        (flatMap-map (λ w. 32 ∷ w) octal generators)
+
+-- ---- refusals
+
+pub refusal-fifteen : (number left : ℕ) → number ≡ 15 → refusalText number left ≡ line (78 ∷ 79 ∷ []) (decimal number ∷ decimal left ∷ [])
+unfolding refusalText wNO
+refusal-fifteen number left e = ap (λ (b : Bool). line wNO (decimal number ∷ cond b (decimal left ∷ []) [])) (eq-eqb number 15 e)
+
+pub refusal-other : (number left : ℕ) → (number ≡ 15 → ⊥) → refusalText number left ≡ line (78 ∷ 79 ∷ []) (decimal number ∷ [])
+unfolding refusalText wNO
+refusal-other number left n = ap (λ (b : Bool). line wNO (decimal number ∷ cond b (decimal left ∷ []) [])) (ne-eqb number 15 n)

@@ -1,0 +1,55 @@
+-- The invariant: the lines of the weights below w have been put.
+-- Assumes nothing.
+use Prim.Native.Nat.{_+_, _*_, _-_, _≤_, zero-le}
+use native.Mathlib.Omega.{arith}
+use mathlib.Core.Path.{_≡_, sym, ap}
+use mathlib.Core.List.{flatMap}
+use Rattle.lists.specs.Lists.{upFrom}
+use Rattle.text.specs.Text.{countLine}
+use Rattle.text.specs.Steps.{Put}
+use Rattle.text.proofs.Puts.{put-none, put-as, put-most, joined, put-same-length}
+use Rattle.text.proofs.Pieces.{range-more}
+use Rattle.text.proofs.lines.put_counts.Statement.{statement}
+use Rattle.text.proofs.lines.put_counts.Tie as tie
+
+abbrev Inv-loop : tie.InvT-loop
+Inv-loop buffer₀ at d plain undetected end₀ w₀ buffer end w = (w ≤ d) × Put (51 * w) buffer₀ at (flatMap (countLine plain undetected) (upFrom 0 w)) buffer end
+
+abbrev μ-loop : tie.MeasureT-loop
+μ-loop buffer₀ at d plain undetected end₀ w₀ buffer end w = d - w
+
+loop-holds : tie.Need-loop-holds Inv-loop μ-loop
+unfolding flatMap upFrom
+loop-holds c = let a = c .before .before .before .args in (zero-le, put-none (a .buffer .now) (a .at))
+
+put-count-requires : tie.Need-put-count-requires Inv-loop μ-loop
+put-count-requires c κs = let same = put-same-length (c .before .before .loop .inv .1) in omega arith
+
+add-w : tie.Need-add-w Inv-loop μ-loop
+add-w c = omega arith
+
+loop-less : tie.Need-loop-less Inv-loop μ-loop
+loop-less c = omega arith
+
+loop-again : tie.Need-loop-again Inv-loop μ-loop
+loop-again c = let a = c .before .before .before .before .before .before .before .before .before .args in let l = c .before .before .before .before .before .loop in let more = joined (l .inv .1) (c .before .before .put-count .ensures) in let within = put-most (51 * (l .w + 1)) more (omega (arith, more .short)) in (omega arith, put-as (sym (range-more (countLine (a .plain .now) (a .undetected .now)) (l .w))) within)
+
+same-length : tie.Need-same-length Inv-loop μ-loop
+same-length c = put-same-length (c .before .loop .inv .1)
+
+returns : tie.Need-returns Inv-loop μ-loop
+returns c = let a = c .before .before .before .before .before .args in let l = c .before .loop in let done : l .w ≡ a .d = omega arith in let all = put-as (ap (λ k. flatMap (countLine (a .plain .now) (a .undetected .now)) (upFrom 0 k)) done) (l .inv .1) in put-most (51 * a .d) all (omega (arith, all .short))
+
+pub put-counts-spec : {M : Type 1} → statement M
+put-counts-spec =
+    tie.close
+    (tie.spec
+    Inv-loop
+    μ-loop
+    loop-holds
+    put-count-requires
+    add-w
+    loop-less
+    loop-again
+    same-length
+    returns)

@@ -1,0 +1,39 @@
+-- The word, the numbers, the line's end.
+-- Assumes nothing.
+use native.Mathlib.Omega.{arith}
+use Prim.Native.Nat.{_+_, _*_}
+use mathlib.Core.Path.{refl, sym, _∙_}
+use lib.ListN.{length, length-set}
+use Rattle.text.proofs.Puts.{put-byte, put-as, put-most, joined, put-same-length}
+use Rattle.text.proofs.Pieces.{decimal-line}
+use Rattle.text.proofs.lines.put_line.Statement.{statement}
+use Rattle.text.proofs.lines.put_line.Tie as tie
+
+put-bytes-requires : tie.Need-put-bytes-requires
+put-bytes-requires c κs = omega arith
+
+put-numbers-requires : tie.Need-put-numbers-requires
+put-numbers-requires c κs = omega arith
+
+slice-write-buffer : tie.Need-slice-write-buffer
+slice-write-buffer c = omega arith
+
+add-result : tie.Need-add-result
+add-result c = omega arith
+
+same-length : tie.Need-same-length
+same-length c = let p = c .before .before .before .before .before .before .put-bytes .ensures in let q = c .before .before .put-numbers .ensures in simp length-set (put-same-length q ∙ put-same-length p)
+
+returns : tie.Need-returns
+returns c = let a = c .before .before .before .before .before .before .before .before .before .before .before .args in let p = c .before .before .before .before .before .before .put-bytes .ensures in let q = c .before .before .put-numbers .ensures in let all = joined p (joined q (put-byte (c .before .before .put-numbers .last .0) (c .before .before .put-numbers .result) 10 refl)) in let within = put-most (length (a .first .now) + 23 * length (a .numbers .now) + 1) all (omega (arith, all .short)) in put-as (sym (decimal-line (a .first .now) (a .numbers .now))) within
+
+pub put-line-spec : {M : Type 1} → statement M
+put-line-spec =
+    tie.close
+    (tie.spec
+    put-bytes-requires
+    put-numbers-requires
+    slice-write-buffer
+    add-result
+    same-length
+    returns)

@@ -1,0 +1,29 @@
+-- Refused with the buffer as it was, or written into a cleared one.
+-- Assumes nothing.
+use native.Mathlib.Omega.{arith}
+use Rattle.text.specs.Text.{refusalText}
+use Rattle.text.specs.Calls.{refusalCall}
+use Rattle.text.proofs.Calls.{written-as, refusal-no-room, refusal-room}
+use borrow.Author.Needs.{needs}
+use Rattle.text.proofs.write_refusal.Statement.{statement}
+use Rattle.text.proofs.write_refusal.Tie as tie
+
+returns : tie.Need-returns
+returns c = let a = c .before .before .args in refusal-no-room (a .number) (a .left) (a .buffer .now) (c .if1 .taken)
+
+clear-requires : tie.Need-clear-requires
+clear-requires c κs = search needs
+
+put-refusal-requires : tie.Need-put-refusal-requires
+put-refusal-requires c κs = omega arith
+
+same-length : tie.Need-same-length
+same-length c = search needs
+
+returns-2 : tie.Need-returns-2
+unfolding refusalCall
+returns-2 c = let a = c .before .before .before .before .before .before .before .before .before .before .args in let room = c .before .before .before .before .before .before .before .before .if1 .left in written-as _ (refusalText (a .number) (a .left)) (a .buffer .now) (refusal-room (a .buffer .now) room) room (c .before .before .before .before .before .before .clear .ensures) (c .before .before .put-refusal .ensures)
+
+pub write-refusal-spec : {M : Type 1} → statement M
+write-refusal-spec =
+    tie.close (tie.spec returns clear-requires put-refusal-requires same-length returns-2)

@@ -1,0 +1,118 @@
+// What is printed: the row of an order, or a refusal, as bytes in a lent buffer.
+ghost use mathlib.Core.Path.{_≡_};
+ghost use Prim.Native.Nat.{_≤_};
+ghost use lib.ListN.{length, replicate};
+ghost use Rattle.order.specs.Questions.{firstNo};
+ghost use Rattle.text.specs.Text.{rowText, refusalText};
+ghost use Rattle.text.specs.Calls.{writtenAs, orderIn, rowQuestions, rowCall, refusalCall};
+ghost use Rattle.text.specs.Steps.{Put};
+use lines::put_counts;
+use lines::put_line;
+use lines::put_order;
+use lines::put_polynomial;
+use order::questions::from_to;
+use order::record::OrderRecord;
+
+mod lines;
+mod numbers;
+
+// How many bytes the text has, or the number of the question that says no.
+pub enum Written {
+    Bytes(u64),
+    Refused(u64),
+}
+
+fn clear(buffer: &mut [u8])
+    ensures { λ _. ⌜ now (buffer .exit) ≡ replicate (length (now (buffer .entry))) 0 ⌝ }
+{
+    let mut i = 0;
+    while i < buffer.len() {
+        buffer[i] = 0;
+        i += 1;
+    }
+}
+
+// Questions 3, 7 and 10: the number of the first that says no, or 0.
+fn ask_row(o: OrderRecord, plain: usize, undetected: usize, size: usize) -> u64
+    ensures { λ r. ⌜ r ≡ firstNo (rowQuestions o plain undetected size) ⌝ }
+{
+    if !from_to(2, 4, o.n) {
+        return 3;
+    }
+    if !from_to(1, 64, o.d) {
+        return 7;
+    }
+    let d = o.d as usize;
+    if plain < d {
+        return 10;
+    }
+    if undetected < d {
+        return 10;
+    }
+    if size < 4096 {
+        return 10;
+    }
+    0
+}
+
+fn put_row(
+    buffer: &mut [u8],
+    o: OrderRecord,
+    events: u64,
+    paths: u64,
+    polynomial: u64,
+    plain: &[u64],
+    undetected: &[u64],
+) -> usize
+    requires { ⌜ (o .n ≤ 4) × (o .d ≤ 64) × (o .d ≤ length (now plain)) × (o .d ≤ length (now undetected)) × (4096 ≤ length (now buffer)) ⌝ }
+    ensures { λ r. ⌜ Put 4096 (now (buffer .entry)) 0 (rowText (orderIn o) events paths polynomial (now (plain .entry)) (now (undetected .entry))) (now (buffer .exit)) r ⌝ }
+{
+    let to_events = put_order(buffer, 0, o);
+    let to_paths = put_line(buffer, to_events, b"EVENTS", &[events]);
+    let to_counts = put_line(buffer, to_paths, b"PATHS", &[paths]);
+    let to_polynomial = put_counts(buffer, to_counts, o.d as usize, plain, undetected);
+    put_polynomial(buffer, to_polynomial, polynomial)
+}
+
+fn put_refusal(buffer: &mut [u8], number: u64, left: u64) -> usize
+    requires { ⌜ 4096 ≤ length (now buffer) ⌝ }
+    ensures { λ r. ⌜ Put 4096 (now (buffer .entry)) 0 (refusalText number left) (now (buffer .exit)) r ⌝ }
+{
+    if number == 15 {
+        return put_line(buffer, 0, b"NO", &[number, left]);
+    }
+    put_line(buffer, 0, b"NO", &[number])
+}
+
+// The row of an order, and zeros after it.
+pub fn write_row(
+    o: OrderRecord,
+    events: u64,
+    paths: u64,
+    polynomial: u64,
+    plain: &[u64],
+    undetected: &[u64],
+    buffer: &mut [u8],
+) -> Written
+    ensures { λ r. ⌜ (writtenAs r, now (buffer .exit)) ≡ rowCall o events paths polynomial (now (plain .entry)) (now (undetected .entry)) (now (buffer .entry)) ⌝ }
+{
+    let refusal = ask_row(o, plain.len(), undetected.len(), buffer.len());
+    if refusal != 0 {
+        return Written::Refused(refusal);
+    }
+    clear(buffer);
+    let end = put_row(buffer, o, events, paths, polynomial, plain, undetected);
+    Written::Bytes(end as u64)
+}
+
+// A refusal, and zeros after it.
+pub fn write_refusal(number: u64, left: u64, buffer: &mut [u8]) -> Written
+    ensures { λ r. ⌜ (writtenAs r, now (buffer .exit)) ≡ refusalCall number left (now (buffer .entry)) ⌝ }
+{
+    if buffer.len() < 4096 {
+        return Written::Refused(10);
+    }
+    clear(buffer);
+    let end = put_refusal(buffer, number, left);
+    Written::Bytes(end as u64)
+}

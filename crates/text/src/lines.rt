@@ -1,0 +1,87 @@
+// The lines of a text.
+ghost use mathlib.Core.List.{[], _∷_, map, flatMap};
+ghost use Prim.Native.Nat.{_+_, _*_, _<_, _≤_};
+ghost use lib.ListN.{length};
+ghost use Rattle.lists.specs.Lists.{upFrom};
+ghost use Rattle.text.specs.Text.{decimal, hexadecimal, line, wCRC, orderLine, countLine};
+ghost use Rattle.text.specs.Calls.{orderIn};
+ghost use Rattle.text.specs.Steps.{Put};
+use super::numbers::put_digits;
+use super::numbers::put_numbers;
+use order::record::OrderRecord;
+
+pub fn put_bytes(buffer: &mut [u8], at: usize, bytes: &[u8]) -> usize
+    requires { ⌜ at + length (now bytes) ≤ length (now buffer) ⌝ }
+    ensures { λ r. ⌜ Put (length (now (bytes .entry))) (now (buffer .entry)) at (now (bytes .entry)) (now (buffer .exit)) r ⌝ }
+{
+    let mut i = 0;
+    while i < bytes.len() {
+        buffer[at + i] = bytes[i];
+        i += 1;
+    }
+    at + i
+}
+
+// A word and decimal numbers.
+pub fn put_line(buffer: &mut [u8], at: usize, first: &[u8], numbers: &[u64]) -> usize
+    requires { ⌜ at + (length (now first) + 23 * length (now numbers) + 1) ≤ length (now buffer) ⌝ }
+    ensures { λ r. ⌜ Put (length (now (first .entry)) + 23 * length (now (numbers .entry)) + 1) (now (buffer .entry)) at (line (now (first .entry)) (map decimal (now (numbers .entry)))) (now (buffer .exit)) r ⌝ }
+{
+    let after_first = put_bytes(buffer, at, first);
+    let after_numbers = put_numbers(buffer, after_first, 10, numbers);
+    buffer[after_numbers] = b'\n';
+    after_numbers + 1
+}
+
+// The generators are octal, the other numbers decimal.
+pub fn put_order(buffer: &mut [u8], at: usize, o: OrderRecord) -> usize
+    requires { ⌜ (o .n ≤ 4) × (at + 213 ≤ length (now buffer)) ⌝ }
+    ensures { λ r. ⌜ Put 213 (now (buffer .entry)) at (orderLine (orderIn o)) (now (buffer .exit)) r ⌝ }
+{
+    let numbers = [o.n, o.v, o.bits, o.m, o.d];
+    let generators = [o.g1, o.g2, o.g3, o.g4];
+    let n = o.n as usize;
+    let after_first = put_bytes(buffer, at, b"ORDER");
+    let after_numbers = put_numbers(buffer, after_first, 10, &numbers);
+    let after_generators = put_numbers(buffer, after_numbers, 8, &generators[..n]);
+    buffer[after_generators] = b'\n';
+    after_generators + 1
+}
+
+// The counts of one weight, which has two digits at most.
+fn put_count(buffer: &mut [u8], at: usize, w: usize, plain: &[u64], undetected: &[u64]) -> usize
+    requires { ⌜ (w < 64) × (w < length (now plain)) × (w < length (now undetected)) × (at + 71 ≤ length (now buffer)) ⌝ }
+    ensures { λ r. ⌜ Put 51 (now (buffer .entry)) at (countLine (now (plain .entry)) (now (undetected .entry)) w) (now (buffer .exit)) r ⌝ }
+{
+    put_line(buffer, at, b"A", &[w as u64, plain[w], undetected[w]])
+}
+
+// The counts of every weight below d.
+pub fn put_counts(
+    buffer: &mut [u8],
+    at: usize,
+    d: usize,
+    plain: &[u64],
+    undetected: &[u64],
+) -> usize
+    requires { ⌜ (d ≤ 64) × (d ≤ length (now plain)) × (d ≤ length (now undetected)) × (at + (51 * d + 20) ≤ length (now buffer)) ⌝ }
+    ensures { λ r. ⌜ Put (51 * d) (now (buffer .entry)) at (flatMap (countLine (now (plain .entry)) (now (undetected .entry))) (upFrom 0 d)) (now (buffer .exit)) r ⌝ }
+{
+    let mut end = at;
+    let mut w = 0;
+    while w < d {
+        end = put_count(buffer, end, w, plain, undetected);
+        w += 1;
+    }
+    end
+}
+
+pub fn put_polynomial(buffer: &mut [u8], at: usize, polynomial: u64) -> usize
+    requires { ⌜ at + 29 ≤ length (now buffer) ⌝ }
+    ensures { λ r. ⌜ Put 29 (now (buffer .entry)) at (line wCRC (hexadecimal polynomial ∷ [])) (now (buffer .exit)) r ⌝ }
+{
+    let after_first = put_bytes(buffer, at, b"CRC 0x");
+    let after_digits = put_digits(buffer, after_first, 16, polynomial);
+    buffer[after_digits] = b'\n';
+    after_digits + 1
+}

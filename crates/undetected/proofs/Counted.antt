@@ -1,0 +1,107 @@
+-- Weight by weight: where the words of a weight stand, that counting those that pass every parity check counts those that p divides, and the counts
+-- that stand in the lent list so far.
+-- Assumes nothing.
+use Prim.Native.Nat.{ℕ, suc, _+_, _-_, _*_, _≤_, _<_}
+use native.Mathlib.Nat.{le-refl}
+use native.Mathlib.Decide.{le-ind}
+use native.Mathlib.Numerals.{add-one}
+use native.Mathlib.Omega.{arith}
+use mathlib.Core.Path.{_≡_, sym, ap, ap₂, _∙_, fun-ext}
+use mathlib.Core.Bool.{Bool}
+use mathlib.Core.List.{List, [], _∷_, _++_, map, map-append, append-assoc}
+use lib.Dec.{eqb}
+use lib.ListN.{length, getD, take, drop, set, length-append, length-drop, take-append-drop}
+use lib.Seq.{length-take-le, drop-cons, append-snoc, set-at}
+use Rattle.lists.specs.Lists.{upFrom, count}
+use Rattle.lists.proofs.Lengths.{length-map-upFrom, upFrom-last}
+use Rattle.lists.proofs.Sums.{sum-last}
+use Rattle.poly.specs.Poly.{remainder}
+use Rattle.parity.specs.Parity.{checkTable}
+use Rattle.parity.proofs.Divided.{all-even-divided}
+use Rattle.paths.specs.Part.{pathsBefore}
+use Rattle.undetected.specs.Steps.{wordAt, dividedBetween, dividedOf, evenBetween, upTo, countedFrom, Readable, Divisor}
+use Rattle.undetected.proofs.Counting.{between-le, upTo-within}
+
+-- ---- where the words of a weight stand
+
+module _ (plain : List ℕ) where
+  pub before-more : (w : ℕ) → pathsBefore plain (w + 1) ≡ pathsBefore plain w + getD plain w 0
+  unfolding pathsBefore
+  before-more w = ap (pathsBefore plain) (add-one w) ∙ sum-last w (λ j. getD plain j 0)
+
+  before-mono : (k w : ℕ) → k ≤ w → pathsBefore plain k ≤ pathsBefore plain w
+  before-mono k w h =
+      le-ind (λ (j : ℕ). pathsBefore plain k ≤ pathsBefore plain j) (le-refl (pathsBefore plain k))
+      (λ j l e. omega (arith, before-more j, ap (pathsBefore plain) (add-one j))) w h
+
+  -- those of weight w end where those below d end, or before
+  pub before-end : (w d at : ℕ) → w < d → at ≡ pathsBefore plain w → at + getD plain w 0 ≤ pathsBefore plain d
+  before-end w d at h e = let s = before-mono (w + 1) d (omega arith) in omega (arith, before-more w)
+
+-- ---- the words of one weight
+
+module _ (bits d m p : ℕ) (table plain : List ℕ) (readable : Readable bits d table plain) (divisor : Divisor m p) where
+  even-divided : (a b : ℕ) → evenBetween (checkTable bits m p) m table a b ≡ dividedBetween m p table a b
+  unfolding evenBetween dividedBetween wordAt
+  even-divided a b =
+      ap (λ (f : ℕ → Bool). count f (upFrom a (b - a)))
+      (fun-ext
+      (λ k. all-even-divided bits m p (getD table (2 * k) 0) (getD table (2 * k + 1) 0) (divisor .2) (readable .numbers (2 * k)) (readable .words k)))
+
+  -- the limit is how many there are, so it is never passed
+  pub counted-weight : (rows : List ℕ) (w at r : ℕ) → rows ≡ checkTable bits m p → at ≡ pathsBefore plain w
+      → r ≡ upTo (getD plain w 0) (evenBetween rows m table at (at + getD plain w 0)) → r ≡ dividedOf m p table plain w
+  unfolding dividedOf dividedBetween
+  counted-weight rows w at r er ea e =
+      let all : ℕ = getD plain w 0 in
+      let same : evenBetween rows m table at (at + all) ≡ dividedOf m p table plain w =
+      ap₂ (λ (l : List ℕ) (x : ℕ). evenBetween l m table x (x + all)) er ea ∙ even-divided (pathsBefore plain w) (pathsBefore plain w + all) in
+      let few = between-le (λ k. eqb (remainder m p (wordAt table k)) 0) (pathsBefore plain w) (pathsBefore plain w + all) in
+      e ∙ ap (upTo all) same ∙ sym (upTo-within all (dividedOf m p table plain w) (omega arith))
+
+-- ---- the lent list
+
+module _ (m p : ℕ) (table plain : List ℕ) where
+  pub counted-none : (w : ℕ) (l : List ℕ) → l ≡ countedFrom m p table plain w w l
+  unfolding countedFrom upFrom
+  counted-none w l =
+      let e : w - w ≡ 0 = omega arith in
+      sym (ap (λ (n : ℕ). take w l ++ (map (dividedOf m p table plain) (upFrom w n) ++ drop w l)) e ∙ take-append-drop w l)
+
+  module _ (first w : ℕ) (l : List ℕ) (begun : first ≤ w) where
+    -- what stands before weight w
+    front : List ℕ
+    front = take first l ++ map (dividedOf m p table plain) (upFrom first (w - first))
+
+    length-front : w ≤ length l → length front ≡ w
+    unfolding front
+    length-front h =
+        let begins = length-take-le first l (omega arith) in
+        let goes-on = length-map-upFrom (dividedOf m p table plain) first (w - first) in
+        omega (arith, length-append (take first l) (map (dividedOf m p table plain) (upFrom first (w - first))))
+
+    as-front : countedFrom m p table plain first w l ≡ front ++ drop w l
+    unfolding countedFrom front
+    as-front = sym (append-assoc (take first l) (map (dividedOf m p table plain) (upFrom first (w - first))) (drop w l))
+
+    pub length-counted : w ≤ length l → length (countedFrom m p table plain first w l) ≡ length l
+    length-counted h = let e = length-front h in omega (arith, ap length as-front, length-append front (drop w l), length-drop w l)
+
+    pub counted-next : (x : ℕ) → w < length l → x ≡ dividedOf m p table plain w
+        → set (countedFrom m p table plain first w l) w x ≡ countedFrom m p table plain first (w + 1) l
+    unfolding countedFrom front
+    counted-next x h e =
+        let f : ℕ → ℕ = dividedOf m p table plain in
+        let g : w + 1 - first ≡ suc (w - first) = omega arith in
+        let i : first + (w - first) ≡ w = omega arith in
+        let one-more : map f (upFrom first (w + 1 - first)) ≡ map f (upFrom first (w - first)) ++ (f w ∷ []) =
+        ap (λ (n : ℕ). map f (upFrom first n)) g ∙ ap (map f) (upFrom-last first (w - first))
+        ∙ map-append f (upFrom first (w - first)) ((first + (w - first)) ∷ [])
+        ∙ ap (λ (n : ℕ). map f (upFrom first (w - first)) ++ (f n ∷ [])) i in
+        ap (λ (r : List ℕ). set r w x) (as-front ∙ ap (λ (r : List ℕ). front ++ r) (drop-cons l w 0 h))
+        ∙ set-at front (getD l w 0) (drop (suc w) l) x w (length-front (omega arith))
+        ∙ ap₂ (λ (y k : ℕ). front ++ y ∷ drop k l) e (sym (add-one w))
+        ∙ sym (append-snoc front (f w) (drop (w + 1) l))
+        ∙ ap (λ (r : List ℕ). r ++ drop (w + 1) l)
+        (append-assoc (take first l) (map f (upFrom first (w - first))) (f w ∷ []) ∙ ap (λ (r : List ℕ). take first l ++ r) (sym one-more))
+        ∙ append-assoc (take first l) (map f (upFrom first (w + 1 - first))) (drop (w + 1) l)

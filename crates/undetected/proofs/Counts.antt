@@ -1,0 +1,194 @@
+-- The model joined to the definition: over the path table and the plain counts that the listing leaves, the words of a weight stand where the code
+-- looks for them (`readable`), and how many of them p divides is the undetected count (`divided-counts`). What counting from weight 0 leaves in a list.
+-- Assumes nothing.
+use Prim.Native.Nat.{ℕ, zero, suc, _+_, _-_, _*_, _/_, _%_, _^_, _≤_, _<_}
+use native.Mathlib.Nat.{zero-add, mod-lt, div-lt-iff-lt-mul, lt-of-lt-of-le}
+use native.Mathlib.Decide.{ℕ-discrete}
+use native.Mathlib.Omega.{arith}
+use mathlib.Core.Path.{_≡_, refl, sym, ap, ap₂, _∙_, subst, fun-ext}
+use mathlib.Core.Bool.{Bool}
+use mathlib.Core.List.{List, [], _∷_, _++_, map, flatMap, List·Memᴰ, List·Memᴰ·head, List·Memᴰ·tail}
+use lib.Dec.{eqb}
+use lib.ListN.{length, getD, drop, replicate, List·getD-append, length-replicate}
+use lib.Pow.{pow-pos, pow-mono, split}
+use lib.Seq.{getD-append-add, ext-getD, sets-eq}
+use Rattle.lists.specs.Lists.{upFrom, count, padded}
+use Rattle.lists.proofs.Blocks.{flatMap-append, map-cong-on}
+use Rattle.lists.proofs.Lengths.{length-flatMap, getD-map-upFrom, length-map-upFrom, length-padded, total-upFrom, upFrom-append}
+use Rattle.lists.proofs.Member.{upFrom-bounds}
+use Rattle.lists.proofs.Stores.{sets-cleared}
+use Rattle.lists.proofs.Sums.{sum-cong}
+use Rattle.poly.specs.Poly.{remainder}
+use Rattle.poly.specs.Word.{halves}
+use Rattle.poly.proofs.Halves.{length-halves, getD-halves}
+use Rattle.code.specs.Weight.{weight}
+use Rattle.order.specs.Order.{Order}
+use Rattle.paths.specs.Paths.{words, wordsOfWeight, weights, paths, plainCounts, pathTable}
+use Rattle.paths.specs.Part.{pathsBefore}
+use Rattle.paths.proofs.Listed.{of-paths, length-plainCounts, plain-count-at}
+use Rattle.undetected.specs.Undetected.{passes, undetectedCount, undetectedCounts}
+use Rattle.undetected.specs.Steps.{wordAt, dividedBetween, dividedOf, dividedCounts, countedFrom, Readable}
+use Rattle.undetected.proofs.Counting.{count-filter, count-map}
+
+-- ---- lists
+
+module _ {A : Type 0} (z : A) where
+  getD-fill : (n i : ℕ) → getD (replicate n z) i z ≡ z
+  getD-fill zero i = refl
+  getD-fill (suc n) zero = refl
+  getD-fill (suc n) (suc i) = getD-fill n i
+
+  -- past its end a list reads as the filler, so a filler behind it changes nothing
+  getD-filled : (xs : List A) (n i : ℕ) → getD (xs ++ replicate n z) i z ≡ getD xs i z
+  getD-filled [] n i = getD-fill n i
+  getD-filled (x ∷ xs) n zero = refl
+  getD-filled (x ∷ xs) n (suc i) = getD-filled xs n i
+
+  getD-padded : (n : ℕ) (xs : List A) (i : ℕ) → getD (padded n z xs) i z ≡ getD xs i z
+  unfolding padded
+  getD-padded n xs i = getD-filled xs (n - length xs) i
+
+getD-below : (xs : List ℕ) (b : ℕ) → 0 < b → ((x : ℕ) → List·Memᴰ x xs → x < b) → (i : ℕ) → getD xs i 0 < b
+getD-below [] b h below i = h
+getD-below (x ∷ xs) b h below zero = below x (List·Memᴰ·head refl)
+getD-below (x ∷ xs) b h below (suc i) = getD-below xs b h (λ y m. below y (List·Memᴰ·tail m)) i
+
+-- what stands at the places of a block
+block-at : (xs ys zs : List ℕ) → map (λ k. getD (xs ++ (ys ++ zs)) k 0) (upFrom (length xs) (length ys)) ≡ ys
+block-at xs ys zs =
+    let at : ℕ → ℕ = λ k. getD (xs ++ (ys ++ zs)) k 0 in
+    let n : length (map at (upFrom (length xs) (length ys))) ≡ length ys = length-map-upFrom at (length xs) (length ys) in
+    ext-getD 0 (map at (upFrom (length xs) (length ys))) ys n
+    (λ i h. let g : i < length ys = omega arith in
+    getD-map-upFrom at (length xs) (length ys) i 0 g ∙ getD-append-add xs (ys ++ zs) i 0 ∙ List·getD-append ys zs 0 i g)
+
+-- ---- the path table and the plain counts
+
+module _ (o : Order) where
+  path-small : (k : ℕ) → getD (paths o) k 0 < 2 ^ o .N
+  path-small = getD-below (paths o) (2 ^ o .N) (pow-pos (o .N)) (λ u m. of-paths o u m .fits)
+
+  module _ (np : ℕ) where
+    low-at : (k : ℕ) → getD (pathTable np o) (2 * k) 0 ≡ getD (paths o) k 0 % 2 ^ 64
+    unfolding pathTable
+    low-at k = getD-padded 0 np (flatMap halves (paths o)) (2 * k) ∙ getD-halves (paths o) k .0
+
+    high-at : (k : ℕ) → getD (pathTable np o) (2 * k + 1) 0 ≡ getD (paths o) k 0 / 2 ^ 64
+    unfolding pathTable
+    high-at k = getD-padded 0 np (flatMap halves (paths o)) (2 * k + 1) ∙ getD-halves (paths o) k .1
+
+    -- the words of the table are the paths, one after another
+    pub table-word : (k : ℕ) → wordAt (pathTable np o) k ≡ getD (paths o) k 0
+    unfolding wordAt
+    table-word k = ap₂ (λ (h l : ℕ). h * 2 ^ 64 + l) (high-at k) (low-at k) ∙ split (getD (paths o) k 0) 64
+
+    table-number : o .N ≤ 128 → (k : ℕ) → getD (pathTable np o) k 0 < 2 ^ 64
+    table-number few k = elim (ℕ-discrete (k % 2) 0) [
+      | yes e ↦
+          let g : 2 * (k / 2) ≡ k = omega arith in
+          subst (λ (i : ℕ). getD (pathTable np o) i 0 < 2 ^ 64) g
+          (subst (λ (x : ℕ). x < 2 ^ 64) (sym (low-at (k / 2))) (mod-lt (getD (paths o) (k / 2) 0) (pow-pos 64)))
+      | no e ↦
+          let g : 2 * (k / 2) + 1 ≡ k = omega arith in
+          let small : getD (paths o) (k / 2) 0 / 2 ^ 64 < 2 ^ 64 =
+          div-lt-iff-lt-mul (pow-pos 64) .1 (lt-of-lt-of-le (path-small (k / 2)) (pow-mono few)) in
+          subst (λ (i : ℕ). getD (pathTable np o) i 0 < 2 ^ 64) g (subst (λ (x : ℕ). x < 2 ^ 64) (sym (high-at (k / 2))) small)
+    ]
+
+  -- those before the words of weight w are the words of smaller weights
+  module _ (nc : ℕ) where
+    count-at : (w : ℕ) → w < o .d → getD (padded nc 0 (plainCounts o)) w 0 ≡ length (wordsOfWeight o w)
+    count-at w h = getD-padded 0 nc (plainCounts o) w ∙ plain-count-at o w h
+
+    before-are : (w : ℕ) → w ≤ o .d → pathsBefore (padded nc 0 (plainCounts o)) w ≡ length (flatMap (wordsOfWeight o) (upFrom 0 w))
+    unfolding pathsBefore
+    before-are w h =
+        sum-cong w (λ j. getD (padded nc 0 (plainCounts o)) j 0) (λ j. length (wordsOfWeight o (0 + j)))
+        (λ j l. count-at j (omega arith) ∙ ap (λ (x : ℕ). length (wordsOfWeight o x)) (sym (zero-add j)))
+        ∙ sym (length-flatMap (wordsOfWeight o) (upFrom 0 w) ∙ total-upFrom (λ x. length (wordsOfWeight o x)) 0 w)
+
+    before-all : pathsBefore (padded nc 0 (plainCounts o)) (o .d) ≡ length (paths o)
+    unfolding paths weights
+    before-all = before-are (o .d) (omega arith)
+
+  -- the paths below, of and above weight w
+  paths-parts : (w : ℕ) → w < o .d
+      → paths o ≡ flatMap (wordsOfWeight o) (upFrom 0 w) ++ (wordsOfWeight o w ++ flatMap (wordsOfWeight o) (upFrom (suc w) (o .d - suc w)))
+  unfolding paths weights upFrom flatMap
+  paths-parts w h =
+      let e : o .d ≡ w + suc (o .d - suc w) = omega arith in
+      ap (λ (n : ℕ). flatMap (wordsOfWeight o) (upFrom 0 n)) e
+      ∙ ap (flatMap (wordsOfWeight o))
+      (upFrom-append 0 w (suc (o .d - suc w)) ∙ ap (λ (x : ℕ). upFrom 0 w ++ upFrom x (suc (o .d - suc w))) (zero-add w))
+      ∙ flatMap-append (wordsOfWeight o) (upFrom 0 w) (upFrom w (suc (o .d - suc w)))
+
+  words-at : (w : ℕ) → w < o .d
+      → map (λ k. getD (paths o) k 0) (upFrom (length (flatMap (wordsOfWeight o) (upFrom 0 w))) (length (wordsOfWeight o w))) ≡ wordsOfWeight o w
+  words-at w h =
+      let xs : List ℕ = flatMap (wordsOfWeight o) (upFrom 0 w) in
+      let zs : List ℕ = flatMap (wordsOfWeight o) (upFrom (suc w) (o .d - suc w)) in
+      ap (λ (l : List ℕ). map (λ k. getD l k 0) (upFrom (length xs) (length (wordsOfWeight o w)))) (paths-parts w h)
+      ∙ block-at xs (wordsOfWeight o w) zs
+
+  -- ---- what p divides
+
+  undetected-in : (p w : ℕ) → count (λ u. eqb (remainder (o .m) p u) 0) (wordsOfWeight o w) ≡ undetectedCount o p w
+  unfolding wordsOfWeight undetectedCount passes
+  undetected-in p w = count-filter (λ u. eqb (remainder (o .m) p u) 0) (λ u. eqb (weight (o .N) (o .generators) u) w) (words (o .N))
+
+  module _ (np nc : ℕ) where
+    divided-of : (p w : ℕ) → w < o .d → dividedOf (o .m) p (pathTable np o) (padded nc 0 (plainCounts o)) w ≡ undetectedCount o p w
+    unfolding dividedOf dividedBetween
+    divided-of p w h =
+        let plain : List ℕ = padded nc 0 (plainCounts o) in
+        let test : ℕ → Bool = λ u. eqb (remainder (o .m) p u) 0 in
+        let at : ℕ = length (flatMap (wordsOfWeight o) (upFrom 0 w)) in
+        let all : ℕ = length (wordsOfWeight o w) in
+        let long : pathsBefore plain w + getD plain w 0 - pathsBefore plain w ≡ all = omega (arith, count-at nc w h) in
+        ap₂ (λ (a n : ℕ). count (λ k. test (wordAt (pathTable np o) k)) (upFrom a n)) (before-are nc w (omega arith)) long
+        ∙ ap (λ (f : ℕ → ℕ). count (λ k. test (f k)) (upFrom at all)) (fun-ext (table-word np))
+        ∙ sym (count-map test (λ k. getD (paths o) k 0) (upFrom at all))
+        ∙ ap (count test) (words-at w h)
+        ∙ undetected-in p w
+
+    -- the counts of the model are those of the definition
+    pub divided-counts : (p : ℕ) → dividedCounts (o .m) (pathTable np o) (padded nc 0 (plainCounts o)) (o .d) p ≡ undetectedCounts o p
+    unfolding dividedCounts undetectedCounts weights
+    divided-counts p =
+        map-cong-on (dividedOf (o .m) p (pathTable np o) (padded nc 0 (plainCounts o))) (undetectedCount o p) (upFrom 0 (o .d))
+        (λ w l. let b = upFrom-bounds 0 (o .d) l in divided-of p w (omega arith))
+
+    -- what the listing leaves can be counted over
+    pub readable : o .N ≤ 128 → o .d ≤ nc → 2 * length (paths o) ≤ np → Readable (o .N) (o .d) (pathTable np o) (padded nc 0 (plainCounts o))
+    unfolding pathTable
+    readable few enough room =
+        let n = length-halves (paths o) in
+        record {
+          narrow = few;
+          numbers = table-number np few;
+          words = λ k. subst (λ (x : ℕ). x < 2 ^ o .N) (sym (table-word np k)) (path-small k);
+          weights = omega (arith, length-plainCounts o, length-padded nc 0 (plainCounts o) (omega (arith, length-plainCounts o)));
+          inside = omega (arith, before-all nc, length-padded np 0 (flatMap halves (paths o)) (omega arith));
+        }
+
+-- ---- counted from weight 0
+
+module _ (m p : ℕ) (table plain : List ℕ) (d : ℕ) where
+  pub length-dividedCounts : length (dividedCounts m table plain d p) ≡ d
+  unfolding dividedCounts
+  length-dividedCounts = length-map-upFrom (dividedOf m p table plain) 0 d
+
+  pub counted-all : (l : List ℕ) → countedFrom m p table plain 0 d l ≡ dividedCounts m table plain d p ++ drop d l
+  unfolding countedFrom dividedCounts
+  counted-all l = let e : d - 0 ≡ d = omega arith in ap (λ (n : ℕ). map (dividedOf m p table plain) (upFrom 0 n) ++ drop d l) e
+
+  -- in a cleared list
+  pub counted-cleared : (nu : ℕ) → d ≤ nu → countedFrom m p table plain 0 d (replicate nu 0) ≡ padded nu 0 (dividedCounts m table plain d p)
+  counted-cleared nu h =
+      let xs : List ℕ = dividedCounts m table plain d p in
+      let zeros : List ℕ = replicate nu 0 in
+      let n : length xs ≡ d = length-dividedCounts in
+      let size : length zeros ≡ nu = length-replicate nu 0 in
+      let same : d ≡ 0 + length xs = omega arith in
+      counted-all zeros ∙ ap (λ (k : ℕ). xs ++ drop k zeros) same ∙ sym (sets-eq xs zeros 0 (omega arith))
+      ∙ sets-cleared nu 0 xs (omega arith)

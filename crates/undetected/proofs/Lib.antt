@@ -1,0 +1,4 @@
+pub mod Undetected
+pub mod Counting
+pub mod Counted
+pub mod Counts

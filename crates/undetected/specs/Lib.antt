@@ -1,0 +1,2 @@
+pub mod Undetected
+pub mod Steps

@@ -1,0 +1,63 @@
+// How many listed words of each weight a polynomial divides.
+// What is `pub` here is for the crates above; docs/DECISIONS.md lists it as internal.
+ghost use mathlib.Core.Path.{_≡_};
+ghost use Prim.Native.Nat.{_+_, _*_, _≤_};
+ghost use lib.ListN.{length};
+ghost use Rattle.paths.specs.Part.{pathsBefore};
+ghost use Rattle.undetected.specs.Steps.{evenBetween, upTo, countedFrom, Readable, Divisor};
+use parity::all_even;
+use parity::check_table;
+
+// How many of the words from place `from` to before place `to` pass every check. Counting stops at one more than the limit.
+pub fn count_up_to(
+    table: &[u64],
+    from: usize,
+    to: usize,
+    rows: &[u64; 24],
+    m: u64,
+    limit: u64,
+) -> u64
+    requires { ⌜ (from ≤ to) × (2 * to ≤ length (now table)) × (m ≤ 12) ⌝ }
+    ensures { λ r. ⌜ r ≡ upTo limit (evenBetween (now (rows .entry)) m (now (table .entry)) from to) ⌝ }
+{
+    let mut found = 0;
+    let mut k = from;
+    while k < to {
+        let at = 2 * k;
+        if all_even(rows, m, table[at], table[at + 1]) {
+            found += 1;
+            if limit < found {
+                return found;
+            }
+        }
+        k += 1;
+    }
+    found
+}
+
+// The undetected counts of p for the weights from `first` to before d. The words of weight `first` begin at place `start`.
+pub fn count_from(
+    table: &[u64],
+    plain: &[u64],
+    undetected: &mut [u64],
+    bits: u64,
+    m: u64,
+    p: u64,
+    first: usize,
+    d: usize,
+    start: usize,
+)
+    requires { ⌜ Readable bits d (now table) (now plain) × Divisor m p × (first ≤ d) × (d ≤ length (now undetected)) × (start ≡ pathsBefore (now plain) first) ⌝ }
+    ensures { λ _. ⌜ now (undetected .exit) ≡ countedFrom m p (now (table .entry)) (now (plain .entry)) first d (now (undetected .entry)) ⌝ }
+{
+    let rows = check_table(bits, m, p);
+    let mut at = start;
+    let mut w = first;
+    while w < d {
+        let all = plain[w];
+        let next = at + all as usize;
+        undetected[w] = count_up_to(table, at, next, &rows, m, all);
+        at = next;
+        w += 1;
+    }
+}

@@ -1,0 +1,100 @@
+//! The search for the best check polynomial as one would write it in Rust: the
+//! library's method after the listing of `chains`, with words of 128 bits. A
+//! word passes the check where it has an even number of ones at the places of
+//! each of m rows; a candidate is left at the first weight where it counts more
+//! than the best so far.
+
+use crate::chains;
+use dohvrin::Event;
+use std::cmp::Ordering;
+
+/// How many paths there are below d, and the best polynomial of degree m, whose
+/// counts are left in `undetected`; the other tables are as `chains::list`
+/// leaves them. Nothing where a table is too small, or several are best.
+#[allow(clippy::too_many_arguments)]
+pub fn search(
+    generators: &[u64],
+    v: u64,
+    bits: u64,
+    m: u64,
+    d: u64,
+    events: &mut [Event],
+    paths: &mut [u128],
+    plain: &mut [u64],
+    undetected: &mut [u64],
+) -> Option<(usize, u64)> {
+    let listed = chains::list(generators, v, bits, d, events, paths, plain)?;
+    // No candidate counts as many.
+    undetected.fill(u64::MAX);
+    let mut best = Vec::new();
+    for p in (1 << m..2 << m).filter(|p| p % 2 == 1) {
+        let rows = check_rows(bits, m, p);
+        match improve(&rows[..m as usize], paths, plain, undetected) {
+            Ordering::Less => best = vec![p],
+            Ordering::Equal => best.push(p),
+            Ordering::Greater => {}
+        }
+    }
+    match best[..] {
+        [polynomial] => Some((listed, polynomial)),
+        _ => None,
+    }
+}
+
+/// Bit j of row i is bit i of x^j modulo p.
+fn check_rows(bits: u64, m: u64, p: u64) -> [u128; 12] {
+    let mut rows = [0; 12];
+    let mut power = 1;
+    for j in 0..bits {
+        for (i, row) in rows.iter_mut().enumerate() {
+            *row |= u128::from(power >> i & 1) << j;
+        }
+        power <<= 1;
+        if power >> m == 1 {
+            power ^= p;
+        }
+    }
+    rows
+}
+
+/// How a candidate's counts compare with the best so far; fewer ones take their
+/// place, from the first weight where they differ on.
+fn improve(rows: &[u128], paths: &[u128], plain: &[u64], undetected: &mut [u64]) -> Ordering {
+    let mut outcome = Ordering::Equal;
+    let mut rest = paths;
+    for (&words, best) in plain.iter().zip(undetected) {
+        let part;
+        (part, rest) = rest.split_at(words as usize);
+        let limit = match outcome {
+            Ordering::Equal => *best,
+            _ => u64::MAX,
+        };
+        let found = count_up_to(limit, rows, part);
+        if found > limit {
+            return Ordering::Greater;
+        }
+        if found < limit {
+            outcome = Ordering::Less;
+        }
+        *best = found;
+    }
+    outcome
+}
+
+/// How many of the words pass, up to one more than the limit.
+fn count_up_to(limit: u64, rows: &[u128], words: &[u128]) -> u64 {
+    let even = |word: u128| {
+        let ones = |row: &u128| (word & row).count_ones();
+        rows.iter().all(|row| ones(row) % 2 == 0)
+    };
+    let mut found = 0;
+    for &word in words {
+        if even(word) {
+            found += 1;
+            if found > limit {
+                break;
+            }
+        }
+    }
+    found
+}

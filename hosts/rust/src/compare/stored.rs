@@ -1,0 +1,44 @@
+//! The stored cases of tests/rows, answered by the library with tables of the
+//! sizes that a case says.
+
+use crate::orders::{answer, lend};
+use dso_ref::Lent;
+use run_rows::cases::{self, Case};
+
+/// How many cases of the files pass and fail; the error names a file that
+/// cannot be read.
+pub fn rows(files: &[String]) -> Result<(u64, u64), String> {
+    let (mut passed, mut failed) = (0, 0);
+    for file in files {
+        let text = std::fs::read_to_string(file).map_err(|error| format!("{file}: {error}"))?;
+        let cases = cases::read(&text).map_err(|wrong| format!("{file}: {wrong}"))?;
+        for case in cases {
+            let at = format!("{file}:{} {}", case.line, case.name);
+            let (lent, of) = asked(&case).ok_or_else(|| format!("{at}: not understood"))?;
+            let text = answer(&mut lend(lent), &case.record, of);
+            if text == case.expected {
+                passed += 1;
+                continue;
+            }
+            failed += 1;
+            println!("{at}: library {text:?}");
+        }
+    }
+    Ok((passed, failed))
+}
+
+/// The sizes of the tables, and the polynomial where counts are asked for.
+fn asked(case: &Case) -> Option<(Lent, Option<u64>)> {
+    let lent = match &case.tables {
+        None => Lent::default(),
+        Some((events, paths)) => Lent {
+            events: events.parse().ok()?,
+            paths: paths.parse().ok()?,
+        },
+    };
+    let of = match &case.of {
+        None => None,
+        Some(polynomial) => Some(u64::from_str_radix(polynomial.strip_prefix("0x")?, 16).ok()?),
+    };
+    Some((lent, of))
+}

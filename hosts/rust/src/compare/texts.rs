@@ -1,0 +1,233 @@
+//! The texts of rows and refusals, of any numbers, in any buffers.
+
+use crate::random::Random;
+use crate::tally::Tally;
+use crate::{number, size};
+use dohvrin::raw::{self, Answer};
+use dohvrin::TEXT;
+use dso_ref::print::Printed;
+use dso_ref::{questions, Refusal};
+
+/// The bytes of a buffer before a call, and those around it.
+const FILL: u8 = 0xA5;
+const GUARD: u8 = 0x3C;
+const GUARDS: usize = 64;
+
+/// What the text of a row is made of: the first `count` generators, and others
+/// behind them; v, N, m and d; events, paths and polynomial; both counts.
+#[derive(Clone, Debug)]
+struct Input {
+    generators: [u64; 8],
+    count: usize,
+    order: [u64; 4],
+    found: [u64; 3],
+    plain: Vec<u64>,
+    undetected: Vec<u64>,
+}
+
+impl Input {
+    /// The text, after questions 3, 7 and 10.
+    fn text(&self, room: usize) -> Result<String, u64> {
+        let [_, _, _, d] = self.order.map(size);
+        let [events, paths, polynomial] = self.found;
+        questions::generator_count(self.count).map_err(number)?;
+        questions::threshold(d).map_err(number)?;
+        if self.plain.len() < d || self.undetected.len() < d || room < TEXT {
+            return Err(10);
+        }
+        let wide = |counts: &[u64]| counts[..d].iter().map(|&x| x.into()).collect::<Vec<u128>>();
+        let printed = Printed {
+            numbers: self.order.map(size),
+            generators: &self.generators[..self.count],
+            events: size(events),
+            paths: paths.into(),
+            plain: &wide(&self.plain),
+            undetected: &wide(&self.undetected),
+            polynomial,
+        };
+        Ok(format!("{printed}\n"))
+    }
+}
+
+pub fn row_text(inputs: u64) -> Tally {
+    let mut random = Random::new(0x804);
+    let mut tally = Tally::new("row_text", &[3, 7, 10]);
+    for _ in 0..inputs {
+        let i = draw(&mut random);
+        let room = draw_room(&mut random);
+        let expected = i.text(room);
+        let [v, bits, m, d] = i.order;
+        let [events, paths, polynomial] = i.found;
+        let raw = |text: *mut u8| {
+            // SAFETY: `count` is at most the array's size, the counts are two
+            // vectors, and the text lies among guards of its own.
+            unsafe {
+                raw::dohvrin_row_text(
+                    i.generators.as_ptr(),
+                    i.count,
+                    v,
+                    bits,
+                    m,
+                    d,
+                    events,
+                    paths,
+                    polynomial,
+                    i.plain.as_ptr(),
+                    i.plain.len(),
+                    i.undetected.as_ptr(),
+                    i.undetected.len(),
+                    text,
+                    room,
+                )
+            }
+        };
+        let safe = |text: &mut [u8]| {
+            let gs = &i.generators[..i.count];
+            let (plain, undetected) = (&i.plain, &i.undetected);
+            dohvrin::row_text(
+                gs, v, bits, m, d, events, paths, polynomial, plain, undetected, text,
+            )
+        };
+        compare(&mut tally, room, expected, raw, safe, || format!("{i:?}"));
+    }
+    tally
+}
+
+pub fn refusal_text(inputs: u64) -> Tally {
+    let mut random = Random::new(0x8EF);
+    let mut tally = Tally::new("refusal_text", &[10]).with_kind("of question 15");
+    for _ in 0..inputs {
+        let no = match random.within(0, 3) {
+            0 => 15,
+            1 => any(&mut random),
+            _ => random.within(0, 255),
+        };
+        let left = any(&mut random);
+        let room = draw_room(&mut random);
+        let expected = match room < TEXT {
+            true => Err(10),
+            false => Ok(refusal_line(no, left)),
+        };
+        if no == 15 && expected.is_ok() {
+            tally.count_kind();
+        }
+        // SAFETY: the text lies among guards.
+        let raw = |text: *mut u8| unsafe { raw::dohvrin_refusal_text(no, left, text, room) };
+        let safe = |text: &mut [u8]| dohvrin::refusal_text(no, left, text);
+        compare(&mut tally, room, expected, raw, safe, || {
+            format!("{no} {left}")
+        });
+    }
+    tally
+}
+
+/// The second tool prints numbers of a byte; the others are as plain.
+fn refusal_line(no: u64, left: u64) -> String {
+    match (no, u8::try_from(no)) {
+        (15, _) => format!("{}\n", Refusal::Tie(size(left))),
+        (_, Ok(byte)) => format!("{}\n", Refusal::No(byte)),
+        _ => format!("NO {no}\n"),
+    }
+}
+
+/// The call as C sees it and the safe function, each with a buffer of so many
+/// bytes among guards: both give the text's size and leave the text and zeros.
+fn compare(
+    tally: &mut Tally,
+    room: usize,
+    expected: Result<String, u64>,
+    raw: impl Fn(*mut u8) -> Answer,
+    safe: impl Fn(&mut [u8]) -> Result<usize, dohvrin::Refusal>,
+    tell: impl FnOnce() -> String,
+) {
+    let refusal = expected.as_ref().err().copied().unwrap_or(0);
+    let length = expected.as_ref().map_or(0, String::len);
+    let answer = Answer {
+        refusal,
+        value: length as u64,
+        ..Answer::default()
+    };
+    let before = 1 + room % GUARDS;
+    let mut bytes = vec![GUARD; before + room + GUARDS];
+    bytes[before..before + room].fill(FILL);
+    let mut left = bytes.clone();
+    if let Ok(text) = &expected {
+        left[before..before + room].fill(0);
+        left[before..before + length].copy_from_slice(text.as_bytes());
+    }
+    let mut again = bytes.clone();
+    let got = raw(bytes[before..before + room].as_mut_ptr());
+    let safe = safe(&mut again[before..before + room]).map_err(|no| no.number());
+    let same = got == answer
+        && bytes == left
+        && safe == expected.as_ref().map(String::len).map_err(|no| *no)
+        && again == left;
+    tally.count(refusal, same, || {
+        let text = String::from_utf8_lossy(&bytes[before..before + length.min(room)]);
+        let input = tell();
+        format!("{input} room {room}: library {got:?} {safe:?} {text:?}, second tool {expected:?}")
+    });
+}
+
+fn draw(random: &mut Random) -> Input {
+    let d = match random.within(0, 15) {
+        0 => random.pick(&[0, 65, 66, 128]),
+        1 => random.huge(5),
+        2 => 64,
+        _ => random.within(1, 64),
+    };
+    let count = match random.within(0, 15) {
+        0 => random.index(8),
+        _ => 2 + random.index(3),
+    };
+    let number = match random.within(0, 15) {
+        0 => |_: &mut Random| u64::MAX,
+        1 => |_: &mut Random| 0,
+        _ => any,
+    };
+    let mut generators = [0; 8];
+    generators.fill_with(|| number(random));
+    let counts = |random: &mut Random| {
+        let enough = size(d.min(64));
+        let entries = match random.within(0, 31) {
+            0 => enough.saturating_sub(1),
+            1 => random.index(64),
+            2..=20 => enough,
+            _ => enough + random.index(40),
+        };
+        (0..entries).map(|_| number(random)).collect()
+    };
+    let (plain, undetected) = (counts(random), counts(random));
+    Input {
+        generators,
+        count,
+        order: [number(random), number(random), number(random), d],
+        found: [number(random), number(random), number(random)],
+        plain,
+        undetected,
+    }
+}
+
+/// A number of any size, at times the least, the greatest, or beside a power of
+/// 8, 10 or 16.
+fn any(random: &mut Random) -> u64 {
+    match random.within(0, 15) {
+        0 => 0,
+        1 => u64::MAX,
+        2 => 10u64.pow(random.within(0, 19) as u32) - random.within(0, 1),
+        3 => (1 << random.within(0, 63)) - random.within(0, 1),
+        _ => random.next() >> random.within(0, 63),
+    }
+}
+
+/// The least size, one short, none, larger, or any.
+fn draw_room(random: &mut Random) -> usize {
+    match random.within(0, 15) {
+        0 => TEXT - 1,
+        1 => random.index(TEXT),
+        2 => 0,
+        3 | 4 => TEXT + random.index(100),
+        5 => 2 * TEXT,
+        _ => TEXT,
+    }
+}

@@ -1,0 +1,215 @@
+//! The command line.
+
+use crate::numbers::{digits, Numbers};
+
+/// What `--help` prints.
+pub const HELP: &str = "\
+usage: dso-row [options] n v N m d g1 .. gn
+       dso-row [options] -
+       dso-row [options] --file FILE
+       dso-row [options] --check FILE
+
+Prints the row of an order: the best check polynomial, and how many wrong words
+of each weight below d pass it unseen. The order is given as the ORDER line
+shows it, generators in octal and the rest decimal, or with - as a record on
+standard input. A refusal prints NO and its number.
+
+  --of 0x61      the counts of this polynomial instead of the search
+  --json         the same as JSON: one line for each row, polynomials as text
+  --checklist    the row, and what the person who signs it looks at
+  --record       the order's record instead, its bytes as dso reads them
+  --record-hex   the same bytes as pairs of hexadecimal digits
+  --file FILE    the rows of several orders, one a line (ORDER may stand before
+                 the numbers; empty lines and # lines are passed over)
+  --check FILE   whether each row of FILE, printed before, is what is computed
+                 now, and where not; with --of, rows of that polynomial
+  --memory MiB   event and path table may grow to this size (1024)
+  --help         this text
+
+FILE may be - for standard input. The tables are doubled where they are too
+small, and standard error says so.
+
+Exit status: 0 answered, refusals included; 1 reading or writing failed;
+2 bad arguments; 3 a row differs, or a point of the checklist fails.
+";
+
+/// MiB that the tables may grow to, where no option says otherwise.
+const MEMORY: usize = 1024;
+
+/// Where an order comes from.
+pub enum Source {
+    Numbers(Numbers),
+    /// A record on standard input.
+    Input,
+}
+
+/// What is to be printed.
+pub enum Task {
+    Help,
+    Row(Source),
+    Checklist(Source),
+    Record(Source),
+    RecordHex(Source),
+    /// The rows of the orders in a file.
+    List(String),
+    /// Whether the rows in a file are right.
+    Check(String),
+}
+
+/// The command line, read.
+pub struct Args {
+    pub task: Task,
+    /// The polynomial whose counts are wanted, rather than the search.
+    pub of: Option<u64>,
+    pub json: bool,
+    /// MiB that event and path table may grow to.
+    pub memory: usize,
+}
+
+#[derive(Default)]
+struct Options {
+    help: bool,
+    json: bool,
+    of: Option<u64>,
+    memory: Option<usize>,
+    other: Option<Other>,
+}
+
+/// What an option wants instead of the row of an order.
+enum Other {
+    Checklist,
+    Record,
+    RecordHex,
+    List(String),
+    Check(String),
+}
+
+impl Other {
+    fn option(&self) -> &'static str {
+        match self {
+            Other::Checklist => "--checklist",
+            Other::Record => "--record",
+            Other::RecordHex => "--record-hex",
+            Other::List(_) => "--file",
+            Other::Check(_) => "--check",
+        }
+    }
+}
+
+/// Reads the arguments after the program's name. The error names the argument.
+pub fn read(arguments: impl Iterator<Item = String>) -> Result<Args, String> {
+    let mut options = Options::default();
+    let mut order = Vec::new();
+    let mut rest = arguments;
+    while let Some(argument) = rest.next() {
+        if argument.starts_with('-') && argument != "-" {
+            options.take(&argument, &mut rest)?;
+        } else {
+            order.push(argument);
+        }
+    }
+    options.check()?;
+    Ok(Args {
+        of: options.of,
+        json: options.json,
+        memory: options.memory.unwrap_or(MEMORY),
+        task: options.task(&order)?,
+    })
+}
+
+impl Options {
+    fn take(
+        &mut self,
+        option: &str,
+        rest: &mut impl Iterator<Item = String>,
+    ) -> Result<(), String> {
+        let mut value = || {
+            rest.next()
+                .ok_or_else(|| format!("{option}: its value is missing (see --help)"))
+        };
+        match option {
+            "--help" => self.help = true,
+            "--json" => self.json = true,
+            "--of" => self.of = Some(polynomial(&value()?)?),
+            "--memory" => self.memory = Some(memory(&value()?)?),
+            "--checklist" => self.take_other(Other::Checklist)?,
+            "--record" => self.take_other(Other::Record)?,
+            "--record-hex" => self.take_other(Other::RecordHex)?,
+            "--file" => self.take_other(Other::List(value()?))?,
+            "--check" => self.take_other(Other::Check(value()?))?,
+            _ => return Err(format!("{option}: no such option (see --help)")),
+        }
+        Ok(())
+    }
+
+    fn take_other(&mut self, other: Other) -> Result<(), String> {
+        if let Some(before) = &self.other {
+            let (one, two) = (other.option(), before.option());
+            return Err(format!("{one}: not together with {two}"));
+        }
+        self.other = Some(other);
+        Ok(())
+    }
+
+    /// What may not stand together.
+    fn check(&self) -> Result<(), String> {
+        let (json, of) = match self.other {
+            None | Some(Other::List(_)) => (true, true),
+            Some(Other::Check(_)) => (false, true),
+            _ => (false, false),
+        };
+        let other = self.other.as_ref().map_or("", Other::option);
+        if self.json && !json {
+            return Err(format!("--json: not together with {other}"));
+        }
+        if self.of.is_some() && !of {
+            return Err(format!("--of: not together with {other}"));
+        }
+        Ok(())
+    }
+
+    fn task(self, order: &[String]) -> Result<Task, String> {
+        if self.help {
+            return Ok(Task::Help);
+        }
+        Ok(match self.other {
+            None => Task::Row(source(order)?),
+            Some(Other::Checklist) => Task::Checklist(source(order)?),
+            Some(Other::Record) => Task::Record(source(order)?),
+            Some(Other::RecordHex) => Task::RecordHex(source(order)?),
+            Some(Other::List(file)) => no_order(order, Task::List(file))?,
+            Some(Other::Check(file)) => no_order(order, Task::Check(file))?,
+        })
+    }
+}
+
+/// A task whose orders are in a file alone.
+fn no_order(order: &[String], task: Task) -> Result<Task, String> {
+    match order.first() {
+        Some(word) => Err(format!("{word}: an order beside the file")),
+        None => Ok(task),
+    }
+}
+
+fn source(order: &[String]) -> Result<Source, String> {
+    let words: Vec<&str> = order.iter().map(String::as_str).collect();
+    match words[..] {
+        ["-"] => Ok(Source::Input),
+        [] => Err("an order is missing (see --help)".to_string()),
+        _ => Numbers::read(&words).map(Source::Numbers),
+    }
+}
+
+fn polynomial(value: &str) -> Result<u64, String> {
+    value
+        .strip_prefix("0x")
+        .and_then(|word| digits(word, 16))
+        .ok_or_else(|| format!("--of {value}: not a polynomial in hexadecimal such as 0x61"))
+}
+
+fn memory(value: &str) -> Result<usize, String> {
+    digits(value, 10)
+        .and_then(|number| usize::try_from(number).ok())
+        .filter(|&number| number > 0 && number <= usize::MAX >> 20)
+        .ok_or_else(|| format!("--memory {value}: not a number of MiB"))
+}

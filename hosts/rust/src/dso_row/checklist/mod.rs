@@ -1,0 +1,57 @@
+//! What the person who signs a row looks at. All of it is found anew from the
+//! listed paths, by plain means and not by the library.
+
+mod polynomials;
+mod remainders;
+mod rivals;
+mod rotations;
+mod zero;
+
+use dohvrin::{Order, Refusal, Row, Tables};
+use std::io::{self, Write};
+
+/// The listed paths: those of each weight below d, in increasing order.
+struct Paths {
+    /// N, the bits of a word.
+    bits: u32,
+    by_weight: Vec<Vec<u128>>,
+}
+
+impl Paths {
+    fn of(order: &Order, tables: &Tables) -> Paths {
+        Paths {
+            bits: order.bits() as u32,
+            by_weight: (0..order.d())
+                .map(|w| tables.paths_of(w).collect())
+                .collect(),
+        }
+    }
+
+    /// The weights that have paths, and these.
+    fn weights(&self) -> impl Iterator<Item = (usize, &[u128])> {
+        let all = self.by_weight.iter().map(Vec::as_slice).enumerate();
+        all.filter(|(_, paths)| !paths.is_empty())
+    }
+
+    /// A word turned by one place: its last bit becomes its first.
+    fn turned(&self, word: u128) -> u128 {
+        (word << 1 | word >> (self.bits - 1)) & (u128::MAX >> (128 - self.bits))
+    }
+}
+
+/// Writes the points of the list after a row, or after a tie. Whether all of
+/// them are as they should be.
+pub fn write(
+    out: &mut impl Write,
+    order: &Order,
+    answer: &Result<Row, Refusal>,
+    tables: &Tables,
+) -> io::Result<bool> {
+    let paths = Paths::of(order, tables);
+    polynomials::write(out, order.generators(), answer)?;
+    let turned = rotations::write(out, &paths)?;
+    let avoided = zero::write(out, order, &paths)?;
+    let best = rivals::write(out, order, answer, tables.undetected(), &paths)?;
+    out.flush()?;
+    Ok(turned && avoided && best)
+}

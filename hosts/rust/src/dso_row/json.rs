@@ -1,0 +1,44 @@
+//! A row as JSON, made of the printed lines: no number is computed or written
+//! anew. Generators and the polynomial, which are not decimal, are text.
+
+/// One line of JSON for the lines of a row, or of a refusal.
+pub fn of(text: &str) -> String {
+    let lines: Vec<Vec<&str>> = text.lines().map(|l| l.split(' ').collect()).collect();
+    let counts: Vec<String> = lines.iter().filter_map(|line| count(line)).collect();
+    let mut members: Vec<String> = lines.iter().filter_map(|line| member(line)).collect();
+    if !counts.is_empty() {
+        // The polynomial stays last, as it is printed.
+        members.insert(
+            members.len() - 1,
+            format!("\"counts\":[{}]", counts.join(",")),
+        );
+    }
+    format!("{{{}}}\n", members.join(","))
+}
+
+fn member(line: &[&str]) -> Option<String> {
+    Some(match line {
+        ["ORDER", n, v, bits, m, d, generators @ ..] => {
+            let texts: Vec<String> = generators.iter().map(|g| format!("\"{g}\"")).collect();
+            let texts = texts.join(",");
+            format!(
+                "\"order\":{{\"n\":{n},\"v\":{v},\"N\":{bits},\"m\":{m},\"d\":{d},\"generators\":[{texts}]}}"
+            )
+        }
+        ["EVENTS", events] => format!("\"events\":{events}"),
+        ["PATHS", paths] => format!("\"paths\":{paths}"),
+        ["CRC", polynomial] => format!("\"crc\":\"{polynomial}\""),
+        ["NO", number] => format!("\"refusal\":{number}"),
+        ["NO", number, left] => format!("\"refusal\":{number},\"left\":{left}"),
+        _ => return None,
+    })
+}
+
+fn count(line: &[&str]) -> Option<String> {
+    match line {
+        ["A", w, plain, undetected] => Some(format!(
+            "{{\"weight\":{w},\"plain\":{plain},\"undetected\":{undetected}}}"
+        )),
+        _ => None,
+    }
+}

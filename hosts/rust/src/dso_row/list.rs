@@ -1,0 +1,30 @@
+//! A price list: the rows of several orders.
+
+use crate::args::Args;
+use crate::desk::Desk;
+use crate::numbers::Numbers;
+use crate::{put_row, text_of, Stop};
+
+/// Writes one row after another. All lines are read before the first is made.
+pub fn write(file: &str, args: &Args) -> Result<(), Stop> {
+    let wrong = |why| Stop::Arguments(format!("{file}, {why}"));
+    let orders = orders(&text_of(file)?).map_err(wrong)?;
+    if orders.is_empty() {
+        return Err(wrong("no order in it".to_string()));
+    }
+    let mut desk = Desk::new(args.of, args.memory);
+    for numbers in &orders {
+        put_row(&desk.lines(numbers), args.json)?;
+    }
+    Ok(())
+}
+
+/// The order of each line; empty lines and # lines are passed over. The error
+/// says in which line it is.
+fn orders(text: &str) -> Result<Vec<Numbers>, String> {
+    let lines = text.lines().zip(1..);
+    lines
+        .filter(|(line, _)| !line.trim().is_empty() && !line.starts_with('#'))
+        .map(|(line, at)| Numbers::read_line(line).map_err(|why| format!("line {at}: {why}")))
+        .collect()
+}

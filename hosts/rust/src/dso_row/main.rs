@@ -1,0 +1,157 @@
+//! `dso-row`: the row of an order, with tables as large as it needs. Every
+//! digit of a row comes from the library's text; `--help` has the rest.
+
+mod args;
+mod check;
+mod checklist;
+mod desk;
+mod json;
+mod list;
+mod numbers;
+mod progress;
+
+use args::{Args, Source, Task};
+use desk::Desk;
+use dohvrin::{Order, Refusal};
+use std::fs::File;
+use std::io::{self, ErrorKind, Read, Write};
+use std::process::ExitCode;
+
+/// Why the program ends before it has answered.
+enum Stop {
+    /// An answer, too: the exit status is 0.
+    Refused(Refusal),
+    /// Reading or writing failed: 1.
+    Io(io::Error),
+    /// Bad arguments: 2.
+    Arguments(String),
+    /// A row or a list is not as it should be, and this was printed: 3.
+    Differs,
+}
+
+impl From<io::Error> for Stop {
+    fn from(error: io::Error) -> Stop {
+        Stop::Io(error)
+    }
+}
+
+impl From<Refusal> for Stop {
+    fn from(refusal: Refusal) -> Stop {
+        Stop::Refused(refusal)
+    }
+}
+
+fn main() -> ExitCode {
+    let arguments = std::env::args_os()
+        .skip(1)
+        .map(|argument| argument.to_string_lossy().into_owned());
+    let stop = match args::read(arguments) {
+        Err(message) => Err(Stop::Arguments(message)),
+        Ok(args) => match answer(&args) {
+            Err(Stop::Refused(refusal)) => refused(refusal, args.json),
+            other => other,
+        },
+    };
+    match stop {
+        Ok(()) | Err(Stop::Refused(_)) => ExitCode::SUCCESS,
+        Err(Stop::Io(error)) => {
+            // Whoever closed the output needs no message.
+            if error.kind() != ErrorKind::BrokenPipe {
+                tell(&error.to_string());
+            }
+            ExitCode::from(1)
+        }
+        Err(Stop::Arguments(message)) => {
+            tell(&message);
+            ExitCode::from(2)
+        }
+        Err(Stop::Differs) => ExitCode::from(3),
+    }
+}
+
+fn answer(args: &Args) -> Result<(), Stop> {
+    match &args.task {
+        Task::Help => put(args::HELP.as_bytes())?,
+        Task::Row(source) => {
+            let order = order(source)?;
+            let row = Desk::new(args.of, args.memory).row(&order)?;
+            put_row(&row.text(), args.json)?;
+        }
+        Task::Checklist(source) => sign(&order(source)?, args)?,
+        Task::Record(source) => put(&order(source)?.record())?,
+        Task::RecordHex(source) => {
+            let bytes = order(source)?.record();
+            let pairs: Vec<String> = bytes.iter().map(|byte| format!("{byte:02X}")).collect();
+            put(format!("{}\n", pairs.join(" ")).as_bytes())?;
+        }
+        Task::List(file) => list::write(file, args)?,
+        Task::Check(file) => check::write(file, args)?,
+    }
+    Ok(())
+}
+
+fn order(source: &Source) -> Result<Order, Stop> {
+    Ok(match source {
+        Source::Numbers(numbers) => numbers.order()?,
+        Source::Input => {
+            // As far as it can matter: past these bytes no length is right.
+            let mut bytes = Vec::new();
+            io::stdin().take(65_538).read_to_end(&mut bytes)?;
+            Order::from_record(&bytes)?
+        }
+    })
+}
+
+/// The row of an order, or its tie, and the checklist.
+fn sign(order: &Order, args: &Args) -> Result<(), Stop> {
+    let mut desk = Desk::new(None, args.memory);
+    let answer = desk.row(order);
+    match &answer {
+        Ok(row) => put_row(&row.text(), false)?,
+        Err(tie @ Refusal::Tie { .. }) => refused(*tie, false)?,
+        Err(refusal) => return Err(Stop::Refused(*refusal)),
+    }
+    if checklist::write(&mut io::stdout().lock(), order, &answer, desk.tables())? {
+        Ok(())
+    } else {
+        Err(Stop::Differs)
+    }
+}
+
+/// Whatever a file holds, as text; - is standard input.
+fn text_of(file: &str) -> io::Result<String> {
+    let mut bytes = Vec::new();
+    let read = match file {
+        "-" => io::stdin().read_to_end(&mut bytes),
+        _ => File::open(file).and_then(|mut opened| opened.read_to_end(&mut bytes)),
+    };
+    read.map_err(|error| io::Error::new(error.kind(), format!("{file}: {error}")))?;
+    Ok(String::from_utf8_lossy(&bytes).into_owned())
+}
+
+/// The line of a refusal, and on standard error what it means.
+fn refused(refusal: Refusal, json: bool) -> Result<(), Stop> {
+    put_row(&refusal.text(), json)?;
+    tell(&refusal.to_string());
+    Ok(())
+}
+
+fn put_row(text: &str, json: bool) -> io::Result<()> {
+    if json {
+        put(json::of(text).as_bytes())
+    } else {
+        put(text.as_bytes())
+    }
+}
+
+fn put(bytes: &[u8]) -> io::Result<()> {
+    let mut out = io::stdout();
+    out.write_all(bytes)?;
+    out.flush()
+}
+
+/// One line on standard error.
+fn tell(message: &str) {
+    // With standard error gone there is no one left to tell.
+    let _ = writeln!(io::stderr(), "dso-row: {message}");
+}

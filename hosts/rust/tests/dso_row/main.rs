@@ -1,0 +1,7 @@
+//! `dso-row` as it is run: what it prints, and its exit status.
+
+mod arguments;
+mod checklist;
+mod files;
+mod rows;
+mod run;

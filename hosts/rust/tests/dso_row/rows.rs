@@ -1,0 +1,201 @@
+//! Rows, refusals, JSON, and tables that grow.
+
+use crate::run::{bytes_on, program, run, run_on};
+use dso_ref::{row, Lent, Method, Order};
+use std::io::Write;
+use std::process::Stdio;
+
+pub const EXAMPLE: &str = "\
+ORDER 2 1 4 2 6 1 3
+EVENTS 5
+PATHS 13
+A 0 0 0
+A 1 0 0
+A 2 0 0
+A 3 4 0
+A 4 5 1
+A 5 4 0
+CRC 0x5
+";
+
+const RECORD: [u8; 12] = [0, 10, 1, 2, 1, 4, 2, 6, 0, 1, 0, 3];
+
+#[test]
+fn the_example_of_document_01() {
+    for run in [run("2 1 4 2 6 1 3"), run_on("-", &RECORD)] {
+        assert_eq!(
+            (run.status, run.out.as_str(), run.err.as_str()),
+            (0, EXAMPLE, "")
+        );
+    }
+}
+
+#[test]
+fn refusals_are_answers() {
+    let refused = |arguments, line| {
+        let run = run(arguments);
+        assert_eq!((run.status, run.out.as_str()), (0, line), "{arguments}");
+        assert!(
+            run.err.starts_with("dso-row: refused by question"),
+            "{}",
+            run.err
+        );
+    };
+    refused("1 1 4 2 6 3", "NO 3\n");
+    refused("5 1 4 2 6 1 3 1 3 1", "NO 3\n");
+    refused("2 9 4 2 6 1 3", "NO 4\n");
+    refused("2 1 129 2 6 1 3", "NO 5\n");
+    refused("2 1 99999999999 2 6 1 3", "NO 5\n");
+    refused("2 1 12 12 6 1 3", "NO 6\n");
+    refused("2 1 4 2 65 1 3", "NO 7\n");
+    refused("2 1 4 2 6 1 4", "NO 8\n");
+    refused("2 1 4 2 6 2 2", "NO 9\n");
+    refused("--of 0x4 2 1 4 2 6 1 3", "NO 11\n");
+    refused("2 1 4 2 5 1 3", "NO 15 2\n");
+}
+
+#[test]
+fn damaged_records() {
+    let long = vec![0; 70_000];
+    for (bytes, line) in [
+        (&[][..], "NO 1\n"),
+        (&[0], "NO 1\n"),
+        (&RECORD[..11], "NO 1\n"),
+        (&long[..], "NO 1\n"),
+        (&[0, 0], "NO 2\n"),
+        (&[0, 1, 1], "NO 3\n"),
+    ] {
+        assert_eq!(run_on("-", bytes).out, line);
+    }
+}
+
+#[test]
+fn counts_of_one_polynomial() {
+    let run = run("--of 0x7 2 1 4 2 6 1 3");
+    let expected = EXAMPLE.replace("A 5 4 0", "A 5 4 2").replace("0x5", "0x7");
+    assert_eq!((run.status, run.out), (0, expected));
+}
+
+#[test]
+fn json() {
+    let run = |arguments| crate::run::run(arguments).out;
+    let counts: Vec<String> = [
+        (0, 0, 0),
+        (1, 0, 0),
+        (2, 0, 0),
+        (3, 4, 0),
+        (4, 5, 1),
+        (5, 4, 0),
+    ]
+    .map(|(w, p, u)| format!(r#"{{"weight":{w},"plain":{p},"undetected":{u}}}"#))
+    .to_vec();
+    let order = r#""order":{"n":2,"v":1,"N":4,"m":2,"d":6,"generators":["1","3"]}"#;
+    let expected = format!(
+        "{{{order},\"events\":5,\"paths\":13,\"counts\":[{}],\"crc\":\"0x5\"}}\n",
+        counts.join(",")
+    );
+    assert_eq!(run("--json 2 1 4 2 6 1 3"), expected);
+    assert_eq!(run("2 1 4 2 5 1 3 --json"), "{\"refusal\":15,\"left\":2}\n");
+    assert_eq!(run("--json 2 1 4 2 0 1 3"), "{\"refusal\":7}\n");
+}
+
+#[test]
+fn a_record_and_back() {
+    let record = bytes_on("--record 2 1 4 2 6 1 3", b"").stdout;
+    assert_eq!(record, RECORD);
+    assert_eq!(run_on("-", &record).out, EXAMPLE);
+    assert_eq!(bytes_on("--record -", &record).stdout, RECORD);
+    assert_eq!(
+        run("--record-hex 2 1 4 2 6 1 3").out,
+        "00 0A 01 02 01 04 02 06 00 01 00 03\n"
+    );
+    assert_eq!(run("--record 2 1 4 2 0 1 3").out, "NO 7\n");
+}
+
+#[test]
+fn the_second_tool_prints_the_same() {
+    for order in [
+        "2 2 12 4 10 5 7",
+        "2 3 20 6 14 13 17",
+        "3 4 18 5 20 25 33 37",
+        "4 1 9 3 12 1 3 3 2",
+        "2 3 30 12 9 13 17",
+    ] {
+        let record = bytes_on(&format!("--record {order}"), b"").stdout;
+        let lent = Lent {
+            events: 1 << 20,
+            paths: 1 << 20,
+        };
+        let theirs = row::row(
+            &Order::from_record(&record).unwrap(),
+            lent,
+            None,
+            Method::Both,
+        );
+        let expected = match theirs {
+            Ok(row) => row.to_string(),
+            Err(dso_ref::Failure::Refused(refusal)) => refusal.to_string(),
+            Err(other) => panic!("{other:?}"),
+        };
+        assert_eq!(run(order).out, expected + "\n");
+    }
+}
+
+#[test]
+fn tables_grow_and_say_so() {
+    // 17,605 paths: a quarter of 1 MiB takes 16,384 of them.
+    let order = "2 3 70 6 13 13 17";
+    let whole = run(order);
+    assert_eq!((whole.status, whole.err.as_str()), (0, ""));
+    let grown = run(&format!("--memory 1 {order}"));
+    assert_eq!((grown.status, grown.out), (0, whole.out));
+    assert_eq!(grown.err, "dso-row: more than 16384 paths, trying 32768\n");
+}
+
+#[test]
+fn tables_grow_to_the_limit_alone() {
+    let many_paths = run("--memory 1 2 3 70 6 15 13 17");
+    assert_eq!(many_paths.out, "NO 14\n");
+    assert!(many_paths
+        .err
+        .contains("more than 16384 paths, trying 32768\n"));
+    assert!(many_paths
+        .err
+        .contains("and no larger table within --memory 1\n"));
+    let many_events = run("--memory 1 2 8 76 12 21 561 753");
+    assert_eq!(
+        (many_events.status, many_events.out.as_str()),
+        (0, "NO 13\n")
+    );
+    assert!(many_events
+        .err
+        .contains("more than 6553 events, trying 13106\n"));
+}
+
+#[test]
+fn a_closed_output_is_no_crash() {
+    let mut child = program()
+        .args(["--checklist", "-"])
+        .stdin(Stdio::piped())
+        .stdout(Stdio::piped())
+        .stderr(Stdio::piped())
+        .spawn()
+        .unwrap();
+    // Closed before the order comes, and so before anything is printed.
+    drop(child.stdout.take());
+    child.stdin.take().unwrap().write_all(&RECORD).unwrap();
+    let output = child.wait_with_output().unwrap();
+    assert_eq!(output.status.code(), Some(1));
+    assert_eq!(output.stderr, b"");
+}
+
+#[test]
+fn a_full_output_is_told() {
+    let full = std::fs::File::options().write(true).open("/dev/full");
+    let Ok(full) = full else {
+        return;
+    };
+    let output = program().arg("--help").stdout(full).output().unwrap();
+    assert_eq!(output.status.code(), Some(1));
+    assert!(output.stderr.starts_with(b"dso-row: "));
+}

@@ -1,0 +1,3 @@
+//! The stored cases, for `run-rows` and for hosts that run them themselves.
+
+pub mod cases;
