@@ -2,11 +2,11 @@
 -- Assumes nothing.
 use mathlib.Core.Path.{_≡_, refl, sym, ap, ap₂, _∙_, subst}
 use mathlib.Core.List.{List}
-use Prim.Native.Nat.{ℕ, _+_, _*_, _/_, _%_, _^_, _<_}
+use Prim.Native.Nat.{ℕ, _+_, _*_, _^_, _<_}
 use lib.ListN.{length}
 use lib.Pow.{high, low}
 use Rattle.order.specs.Order as Order
-use Rattle.order.specs.Answers.{recordOf, readingOf}
+use Rattle.order.specs.Answers.{readingOf}
 use Rattle.crc.specs.Check as Check
 use Rattle.crc.specs.Answers.{appendedAs, strippedAs, testedAs}
 use Rattle.crc.specs.declared.Appended.{Appended}
@@ -37,9 +37,8 @@ use Rattle.text.specs.declared.Written.{Written}
 use Rattle.text.specs.declared.Written.the-variants as X
 use Rattle.text.specs.Calls as Text
 use Rattle.answers.specs.declared.ListAnswer.{ListAnswer}
-use Rattle.answers.specs.declared.OrderAnswer.{OrderAnswer}
 use Rattle.answers.specs.Answers.{refusal, number, halves, checkAnswer, codeAnswer, codeNumber, EncodedAs, eventAnswer, eventsAnswer, pathAnswer, pathsAnswer, rowAnswer, searchAnswer, countsAnswer, orderAnswer, sizeAnswer, textAnswer}
-use Rattle.answers.specs.Cases.{word, numbers, ofAppended, ofStripped, ofTested, ofWeighed, ofEncoded, ofCollected, ofListed, ofSearched, ofRecord, noRecord, ofReading, ofWritten}
+use Rattle.answers.specs.Cases.{word, ofAppended, ofStripped, ofTested, ofWeighed, ofEncoded, ofCollected, ofListed, ofSearched, ofRecord, noRecord, ofReading, ofWritten}
 
 -- a word's halves are those of its number
 word-halves : (l h : ℕ) → l < 2 ^ 64 → word l h ≡ halves (h * 2 ^ 64 + l)

@@ -7,14 +7,14 @@
 --     1792 + k      a weight that no chain of k steps, of the state at hand, is below; 255 at most
 --     2048, 2049    N, and the place after the last event of the state at hand
 -- Assumes nothing.
-use Prim.Native.Nat.{ℕ, zero, suc, _+_, _-_, _*_, _^_, _≤_, _<_, min, max}
+use Prim.Native.Nat.{ℕ, zero, suc, _+_, _-_, _≤_, _<_, min, max}
 use mathlib.Core.Path.{_≡_}
 use mathlib.Core.Bool.{cond, _&&_}
 use mathlib.Core.List.{List}
 use lib.Dec.{leb, ltb, eqb}
 use lib.ListN.{length, getD, set}
 use Rattle.events.specs.declared.Event.{Event}
-use Rattle.events.specs.Events.{ErrorEvent, noEvent}
+use Rattle.events.specs.Events.{noEvent}
 
 abbrev pub firstOf : List ℕ → ℕ → ℕ
 firstOf work i = getD work i 0
@@ -112,12 +112,6 @@ decided work node e =
     cond fits (cond (eqb (e .length) (node .length)) last more) 0
 
 -- ---- what the tables promise
-
--- the event at place k of a table, with its input as one number
-unfoldable pub eventAt : List Event → ℕ → ErrorEvent
-eventAt table k =
-    let e = getD table k noEvent in
-    record { state = e .state; length = e .length; weight = e .weight; input = e .high * 2 ^ 64 + e .low }
 
 -- sums of the tables' weights are small
 pub record Small (work : List ℕ) : Type 0 where

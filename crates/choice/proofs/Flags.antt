@@ -6,10 +6,11 @@ use native.Mathlib.Numerals.{add-one}
 use native.Mathlib.Omega.{arith}
 use mathlib.Core.Path.{_≡_, refl, sym, ap, ap₂, _∙_}
 use mathlib.Core.Bool.{Bool, true, false, cond}
-use mathlib.Core.List.{List, [], _∷_, _++_, map, append-nil, List·Memᴰ, List·Memᴰ·head, List·Memᴰ·tail}
+use mathlib.Core.List.{List, [], _∷_, _++_, append-nil}
 use lib.ListN.{length, getD, set, length-append}
 use Rattle.lists.specs.Lists.{upFrom, filter}
 use Rattle.lists.proofs.Lengths.{length-upFrom, length-filter-le, upFrom-last, upFrom-append}
+use Rattle.lists.proofs.Filters.{filter-append, filter-one}
 use Rattle.choice.specs.Steps.{dropped, aliveBelow, firstOf}
 
 -- ---- put down from the front
@@ -56,38 +57,6 @@ dropped-after (suc k) (suc j) (b ∷ alive) h = dropped-after k j alive (le-of-s
 pub none-below : (alive : List Bool) → aliveBelow alive 0 ≡ []
 unfolding aliveBelow upFrom filter
 none-below alive = refl
-
-module _ {A : Type 0} (f : A → Bool) where
-  pub filter-append : (xs ys : List A) → filter f (xs ++ ys) ≡ filter f xs ++ filter f ys
-  unfolding filter
-  filter-append [] ys = refl
-  filter-append (x ∷ xs) ys = kept (f x) (filter-append xs ys)
-    where
-      kept : (b : Bool) → filter f (xs ++ ys) ≡ filter f xs ++ filter f ys
-          → cond b (x ∷ filter f (xs ++ ys)) (filter f (xs ++ ys)) ≡ cond b (x ∷ filter f xs) (filter f xs) ++ filter f ys
-      kept true e = ap (λ (l : List A). x ∷ l) e
-      kept false e = e
-
-  pub filter-cong-on : (g : A → Bool) (xs : List A) → ((x : A) → List·Memᴰ x xs → f x ≡ g x) → filter f xs ≡ filter g xs
-  unfolding filter
-  filter-cong-on g [] same = refl
-  filter-cong-on g (x ∷ xs) same =
-      ap₂ (λ (b : Bool) (rest : List A). cond b (x ∷ rest) rest) (same x (List·Memᴰ·head refl))
-      (filter-cong-on g xs (λ y m. same y (List·Memᴰ·tail m)))
-
-  pub filter-map : {B : Type 0} (g : B → A) (xs : List B) → filter f (map g xs) ≡ map g (filter (λ x. f (g x)) xs)
-  unfolding filter
-  filter-map g [] = refl
-  filter-map g (x ∷ xs) = either (f (g x)) (filter-map g xs)
-    where
-      either : (b : Bool) → filter f (map g xs) ≡ map g (filter (λ y. f (g y)) xs)
-          → cond b (g x ∷ filter f (map g xs)) (filter f (map g xs)) ≡ map g (cond b (x ∷ filter (λ y. f (g y)) xs) (filter (λ y. f (g y)) xs))
-      either true e = ap (λ (l : List A). g x ∷ l) e
-      either false e = e
-
-  filter-one : (x : A) (b : Bool) → f x ≡ b → filter f (x ∷ []) ≡ cond b (x ∷ []) []
-  unfolding filter
-  filter-one x b e = ap (λ (c : Bool). cond c (x ∷ []) []) e
 
 module _ (alive : List Bool) (k : ℕ) where
   below-more : (b : Bool) → getD alive k false ≡ b → aliveBelow alive (k + 1) ≡ aliveBelow alive k ++ cond b (k ∷ []) []

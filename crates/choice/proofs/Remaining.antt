@@ -18,7 +18,7 @@ use Rattle.lists.proofs.Lengths.{getD-map-upFrom, length-padded, getD-padded-in
 use Rattle.choice.specs.Choice.{candidates, fewer}
 use Rattle.choice.specs.Steps.{unbettered, bestBy, firstOf, flagsLeft, aliveBelow}
 use Rattle.choice.proofs.Candidates.{few-candidates, candidate-number, candidate-member, length-candidates}
-use Rattle.choice.proofs.Flags.{filter-cong-on, filter-map}
+use Rattle.lists.proofs.Filters.{filter-cong-on, filter-map}
 use Rattle.choice.proofs.Leader.{leader, Alive, not-itself, leader-member, leader-least, level-or-worse}
 
 firstOf-member : {p : ℕ} (l : List ℕ) → List·Memᴰ p l → List·Memᴰ (firstOf l) l

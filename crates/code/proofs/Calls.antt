@@ -1,18 +1,18 @@
 -- What follows from the questions of the encoder and the weight: the refusals in their order, and what an accepted call may use.
 -- Assumes nothing.
-use mathlib.Core.Path.{_≡_, refl, sym, ap, _∙_, subst}
-use mathlib.Core.Bool.{Bool, true, false, _&&_}
-use mathlib.Core.List.{List, [], _∷_, _++_, List·Memᴰ}
-use Prim.Native.Nat.{ℕ, zero, suc, _+_, _*_, _^_, _≤_, _<_}
+use mathlib.Core.Path.{_≡_, sym, _∙_, subst}
+use mathlib.Core.Bool.{true, false}
+use mathlib.Core.List.{List, [], _∷_}
+use Prim.Native.Nat.{ℕ, _+_, _*_, _^_, _≤_, _<_}
 use native.Mathlib.Nat.{suc-ne-zero, mul-le-mul}
 use native.Mathlib.Numerals.{add-one}
 use borrow.Author.Tests.{lt-leb, le-leb}
-use lib.Dec.{T, leb, ltb}
+use lib.Dec.{T, ltb}
 use lib.ListN.{length}
-use Rattle.lists.specs.Lists.{all, any}
-use Rattle.lists.proofs.Tests.{both, true-of-T}
+use Rattle.lists.specs.Lists.{all}
+use Rattle.lists.proofs.Tests.{true-of-T}
 use Rattle.lists.proofs.Member.{of-all}
-use Rattle.order.specs.Questions.{Question, firstNo, from-to, inRange, hasBit, shapeQuestions, generatorQuestions, room, below}
+use Rattle.order.specs.Questions.{firstNo, inRange, shapeQuestions, generatorQuestions, room, below}
 use Rattle.order.proofs.Answers.{range, below-of-range}
 use Rattle.order.proofs.FirstNo.{Numbered, firstNo-none, firstNo-yes, firstNo-no, refused-first, refused-later, is-refused, is-answered, yes-of-firstNo}
 use Rattle.code.specs.Weight.{weight}

@@ -1,13 +1,13 @@
 -- Rotating a word turns its states and keeps its weight.
 -- Assumes nothing.
-use mathlib.Core.Path.{_≡_, refl, sym, ap, ap₂, _∙_, subst}
+use mathlib.Core.Path.{_≡_, sym, ap, ap₂, _∙_}
 use mathlib.Core.List.{List}
-use Prim.Native.Nat.{ℕ, zero, suc, _+_, _-_, _*_, _%_, _^_, _≤_, _<_}
-use native.Mathlib.Nat.{add-comm, add-assoc, add-zero, zero-lt-suc, not-suc-le-zero, mod-lt, mod-mod, mod-add-mod, lt-of-lt-of-le}
+use Prim.Native.Nat.{ℕ, suc, _+_, _-_, _%_, _^_, _≤_, _<_}
+use native.Mathlib.Nat.{add-assoc, add-zero, mod-lt, mod-add-mod}
 use native.Mathlib.Omega.{arith}
 use Rattle.lists.specs.Lists.{sum}
 use Rattle.lists.proofs.Sums.{sum-cong, sum-period}
-use Rattle.poly.specs.Poly.{bit, fromBits}
+use Rattle.poly.specs.Poly.{bit}
 use Rattle.poly.proofs.Bits.{fromBits-cong, fromBits-lt, bit-fromBits, fromBits-bits}
 use Rattle.code.specs.Weight.{weight}
 use Rattle.code.specs.Trellis.{place, stateAt, rotate, stepWeight}

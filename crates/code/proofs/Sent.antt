@@ -1,6 +1,6 @@
 -- The encoder a step at a time: the first state from the word's last bits, and the codeword as what the steps send.
 -- Assumes nothing.
-use mathlib.Core.Path.{_≡_, refl, sym, ap, ap₂, _∙_, subst}
+use mathlib.Core.Path.{_≡_, sym, ap, ap₂, _∙_, subst}
 use mathlib.Core.List.{List, [], _∷_, _++_, map, flatMap}
 use Prim.Native.Nat.{ℕ, zero, suc, _+_, _-_, _*_, _%_, _^_, _≤_, _<_}
 use native.Mathlib.Nat.{add-suc, zero-add, zero-mul, suc-mul, mul-comm, mul-le-mul-right, sub-add-cancel, lt-of-lt-of-le}
@@ -16,7 +16,7 @@ use Rattle.lists.proofs.Blocks.{flatMap-none, flatMap-one, flatMap-append, flat
 use Rattle.lists.proofs.Stores.{sets-append, sets-cleared}
 use Rattle.poly.specs.Poly.{bit}
 use Rattle.code.specs.Weight.{output, codeword}
-use Rattle.code.specs.Trellis.{place, stateAt, next, tapped, stepOutput}
+use Rattle.code.specs.Trellis.{stateAt, next, tapped, stepOutput}
 use Rattle.code.proofs.States.{place-bit, stateAt-lt, stateAt-next, stateAt-more, stateAt-none, stateAt-period}
 use Rattle.code.proofs.Steps.{Fit, output-bit}
 

@@ -1,26 +1,26 @@
 -- The weight of a word, by cyclic products, is the sum over its steps of what each state and input weigh; so it is what its walk weighs.
 -- Assumes nothing.
-use mathlib.Core.Path.{_≡_, refl, sym, ap, ap₂, _∙_, subst}
+use mathlib.Core.Path.{_≡_, refl, sym, ap, ap₂, _∙_}
 use mathlib.Core.Logic.{⊎-elim}
 use mathlib.Core.List.{List, [], _∷_, List·Memᴰ, List·Memᴰ·head, List·Memᴰ·tail}
-use Prim.Native.Nat.{ℕ, zero, suc, _+_, _-_, _*_, _/_, _%_, _^_, _≤_, _<_, zero-le, suc-le-suc, min}
-use native.Mathlib.Nat.{not-suc-le-zero, le-of-suc-le-suc, zero-lt-suc, le-refl, le-suc, lt-of-lt-of-le, le-trans, add-zero, zero-add, add-comm, add-suc, one-mul, zero-mul, mul-zero, mul-one, mod-eq-of-lt, mod-lt, mod-add-mod, add-mod-mod, suc-sub-suc, suc-mod, mod-self, eq-or-lt-of-le, zero-mod, zero-min, min-zero}
+use Prim.Native.Nat.{ℕ, zero, suc, _+_, _-_, _*_, _/_, _%_, _^_, _≤_, _<_, suc-le-suc, min}
+use native.Mathlib.Nat.{not-suc-le-zero, le-of-suc-le-suc, zero-lt-suc, le-refl, le-suc, le-trans, zero-add, add-comm, add-suc, one-mul, zero-mul, mod-eq-of-lt, mod-lt, add-mod-mod, suc-mod, mod-self, eq-or-lt-of-le, zero-min}
 use native.Mathlib.Omega.{arith}
 use lib.Dec.{lit<}
 use lib.Arith.{lt-one, digits-mod}
 use lib.Bits.{bitAnd, differ, and-step, and-shr}
 use lib.Count.{ones, onesIn, ones-step}
-use lib.Pow.{pow-pos, pow-lt, high}
-use Rattle.lists.specs.Lists.{sum, all}
+use lib.Pow.{pow-lt, high}
+use Rattle.lists.specs.Lists.{sum}
 use Rattle.lists.proofs.Sums.{sum-cong, sum-add, sum-zero}
 use Rattle.poly.specs.Poly.{bit, fromBits, _⊕_, _⊗_, HasDegree, register, remainder}
-use Rattle.poly.proofs.Sum.{for-bits, digit-times-lt, mod2-lt, bit-lt, bit-⊕, differ-lt, differ-zero-r, half-push, mod2-push}
+use Rattle.poly.proofs.Sum.{for-bits, digit-times-lt, mod2-lt, bit-lt, bit-⊕, differ-zero-r, half-push, mod2-push}
 use Rattle.poly.proofs.Bits.{bit-first, bit-later, bit-zero, bit-low, half-lt, ones-sum, fromBits-cong}
 use Rattle.poly.proofs.Product.{⊗-zero, ⊗-step}
 use Rattle.poly.proofs.Remainder.{remainder-zero, remainder-⊕, remainder-double, remainder-small, remainder-lt}
 use Rattle.code.specs.Weight.{output, weight}
-use Rattle.code.specs.Trellis.{place, stateAt, next, tapped, stepOutput, stepWeight, walk, walkWeight}
-use Rattle.code.proofs.States.{place-lt, place-period, place-bit, stateAt-bit, window, window-lt, window-first, window-later, stateAt-push}
+use Rattle.code.specs.Trellis.{place, stateAt, tapped, stepOutput, stepWeight, walk, walkWeight}
+use Rattle.code.proofs.States.{place-period, place-bit, window, window-lt, window-first, window-later, stateAt-push}
 use Rattle.code.proofs.Walks.{word-follows, walkWeight-follows}
 
 -- ---- x·r modulo x^N + 1: the coefficients move up by one, and the highest comes back as the lowest

@@ -1,14 +1,14 @@
 -- x times a word modulo x^N + 1 as the code computes it: one bit shifted in at the low end, cut to N bits; and the output a coefficient at a time.
 -- Assumes nothing.
-use mathlib.Core.Path.{_≡_, refl, sym, ap, ap₂, _∙_, subst}
+use mathlib.Core.Path.{_≡_, sym, ap, ap₂, _∙_, subst}
 use Prim.Native.Nat.{ℕ, zero, suc, _+_, _-_, _*_, _/_, _%_, _^_, _≤_, _<_}
-use native.Mathlib.Nat.{not-suc-le-zero, mod-lt, zero-mul, one-mul, add-zero, sub-add-cancel, div-eq-of-lt, div-one, pow-suc, div-div-eq-div-mul, zero-lt-suc}
+use native.Mathlib.Nat.{not-suc-le-zero, mod-lt, zero-mul, one-mul, sub-add-cancel, div-eq-of-lt, div-one, pow-suc, div-div-eq-div-mul, zero-lt-suc}
 use native.Mathlib.Numerals.{sub-one}
 use native.Mathlib.Omega.{arith}
 use lib.Dec.{lit<}
 use lib.Pow.{pow-pos, mod-mod-pow, split}
-use Rattle.poly.specs.Poly.{bit, _⊕_, register, remainder}
-use Rattle.poly.proofs.Sum.{bit-lt, mod2-lt, half-push, mod2-push, ⊕-zero-r}
+use Rattle.poly.specs.Poly.{bit, _⊕_, register}
+use Rattle.poly.proofs.Sum.{bit-lt, half-push, mod2-push, ⊕-zero-r}
 use Rattle.poly.proofs.Bits.{bit-first, bit-later, bit-low, eq-by-bits}
 use Rattle.poly.proofs.Remainder.{register-lt}
 use Rattle.code.specs.Weight.{output}

@@ -1,7 +1,7 @@
 -- Laws of walks: a walk over a word's bits goes through the word's states; where a walk of v or more steps ends does not depend on where it began;
 -- so the words of N bits are the closed walks of N steps.
 -- Assumes nothing.
-use mathlib.Core.Path.{_≡_, refl, sym, ap, ap₂, _∙_, subst}
+use mathlib.Core.Path.{_≡_, refl, sym, ap, ap₂, _∙_}
 use mathlib.Core.Logic.{_↔_}
 use mathlib.Core.List.{List}
 use Prim.Native.Nat.{ℕ, zero, suc, _+_, _-_, _*_, _/_, _%_, _^_, _≤_, _<_}

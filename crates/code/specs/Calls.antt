@@ -2,7 +2,7 @@
 -- output, then 12.
 -- Assumes nothing.
 use mathlib.Core.List.{List, [], _∷_, _++_}
-use Prim.Native.Nat.{ℕ, zero, suc, _*_}
+use Prim.Native.Nat.{ℕ, _*_}
 use lib.ListN.{length}
 use Rattle.lists.specs.Lists.{padded}
 use Rattle.order.specs.Questions.{Question, firstNo, unless, shapeQuestions, generatorQuestions, room, below}

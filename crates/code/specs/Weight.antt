@@ -1,7 +1,7 @@
 -- What a tail-biting convolutional code of generators gs sends for a word u of N bits, and what that weighs: by cyclic products alone.
 -- No state, walk or event enters here.
 -- Assumes nothing.
-use Prim.Native.Nat.{ℕ, zero, suc, _+_, _^_}
+use Prim.Native.Nat.{ℕ, _+_, _^_}
 use mathlib.Core.List.{List, [], _∷_, map, flatMap}
 use lib.Count.{ones}
 use Rattle.lists.specs.Lists.{upFrom}

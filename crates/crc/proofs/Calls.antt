@@ -1,18 +1,17 @@
 -- What follows from the questions of append, strip and test: the refusals in their order, and what an accepted call may use.
 -- Assumes nothing.
-use mathlib.Core.Path.{_≡_, refl, sym, ap, ap₂, _∙_, subst}
-use mathlib.Core.Bool.{Bool, true, false, _&&_}
-use mathlib.Core.List.{List, [], _∷_}
-use Prim.Native.Nat.{ℕ, zero, suc, _+_, _-_, _*_, _/_, _%_, _^_, _≤_, _<_}
+use mathlib.Core.Path.{_≡_, sym, ap, ap₂, _∙_, subst}
+use mathlib.Core.Bool.{true, false}
+use mathlib.Core.List.{[], _∷_}
+use Prim.Native.Nat.{ℕ, _+_, _-_, _*_, _/_, _^_, _≤_, _<_}
 use native.Mathlib.Nat.{suc-ne-zero, sub-add-cancel, le-of-lt, lt-of-lt-of-le, zero-add}
-use native.Mathlib.Omega.{arith}
-use borrow.Author.Tests.{leb-true, ltb-true, eqb-true}
-use lib.Dec.{leb, ltb, eqb}
+use borrow.Author.Tests.{ltb-true, eqb-true}
+use lib.Dec.{ltb, eqb}
 use lib.Pow.{shl-lt, pow-mono}
 use Rattle.lists.proofs.Tests.{both}
 use Rattle.order.proofs.Answers.{range}
 use Rattle.poly.specs.Poly.{bit, _⊕_, HasDegree, remainder}
-use Rattle.order.specs.Questions.{Question, firstNo, from-to, below}
+use Rattle.order.specs.Questions.{firstNo, from-to, below}
 use Rattle.order.proofs.FirstNo.{firstNo-none, firstNo-yes, firstNo-no, refused-first, refused-later, is-refused, is-answered, yes-of-firstNo}
 use Rattle.crc.specs.Check.{word, refused, append, strip, test, polynomialQuestions, wordQuestions, appendCall, stripCall, testCall}
 

@@ -8,8 +8,9 @@ use mathlib.Core.List.{List, [], _∷_, _++_}
 use lib.Dec.{T, leb, ltb, le→leb, leb→le, ltb→lt, not-T, lit<}
 use lib.ListN.{length}
 use borrow.Author.Tests.{leb-true}
-use Rattle.lists.proofs.Tests.{true-of-T, false-of-T-not, both}
+use Rattle.lists.proofs.Tests.{true-of-T, false-of-T-not}
 use Rattle.order.specs.Questions.{Question, firstNo, from-to, threshold, room, workSize, shapeQuestions, generatorQuestions}
+use Rattle.order.proofs.Answers.{range}
 use Rattle.order.proofs.FirstNo.{orElse, firstNo-none, firstNo-yes, firstNo-no, firstNo-++, yes-of-firstNo}
 use Rattle.events.specs.Calls.{collectQuestions}
 
@@ -17,10 +18,6 @@ use Rattle.events.specs.Calls.{collectQuestions}
 abbrev NumbersBelow : List Question → Type 0
 NumbersBelow [] = Unit {0}
 NumbersBelow (q ∷ qs) = T (ltb (q .0) (2 ^ 64)) × NumbersBelow qs
-
-range : (low high x : ℕ) → from-to low high x ≡ true → (low ≤ x) × (x ≤ high)
-unfolding from-to
-range low high x e = (leb-true low x (both (leb low x) (leb x high) e .0), leb-true x high (both (leb low x) (leb x high) e .1))
 
 -- what questions 3, 4 and 5 let a call assume
 pub record Shaped (n v N : ℕ) : Type 0 where

@@ -1,8 +1,8 @@
 -- The error events of a code (document 01: events; document 000: irreducible error events), as one ordered list.
 -- Assumes nothing.
-use Prim.Native.Nat.{ℕ, zero, suc, _+_, _*_, _/_, _%_, _^_}
+use Prim.Native.Nat.{ℕ, zero, _/_, _%_, _^_}
 use mathlib.Core.Bool.{Bool, _&&_}
-use mathlib.Core.List.{List, [], _∷_, map, flatMap}
+use mathlib.Core.List.{List, map, flatMap}
 use lib.Dec.{ltb}
 use Rattle.lists.specs.Lists.{upFrom, filter, padded}
 use Rattle.code.specs.Trellis.{walkWeight, firstMeets}

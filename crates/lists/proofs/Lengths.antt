@@ -8,7 +8,7 @@ use mathlib.Core.Bool.{Bool, true, false, cond}
 use mathlib.Core.List.{List, [], _∷_, _++_, map, flatMap}
 use lib.Dec.{T}
 use lib.ListN.{length, getD, replicate, List·getD-append, getD-replicate, length-append, length-map, length-replicate}
-use lib.Seq.{getD-append-add}
+use lib.Seq.{getD-append-add, ext-getD}
 use Rattle.lists.specs.Lists.{upFrom, filter, count, sum, padded}
 
 -- the numbers of a list, added up
@@ -114,3 +114,30 @@ upFrom-append x zero m = ap₂ upFrom (sym (add-zero x)) (zero-add m)
 upFrom-append x (suc n) m =
     ap (upFrom x) (suc-add n m)
     ∙ ap (λ (l : List ℕ). x ∷ l) (upFrom-append (suc x) n m ∙ ap (λ (y : ℕ). upFrom (suc x) n ++ upFrom y m) (suc-add x n ∙ sym (add-suc x n)))
+
+-- ---- read at any place
+
+module _ {A : Type 0} (z : A) where
+  getD-fill : (n i : ℕ) → getD (replicate n z) i z ≡ z
+  getD-fill zero i = refl
+  getD-fill (suc n) zero = refl
+  getD-fill (suc n) (suc i) = getD-fill n i
+
+  -- past its end a list reads as the filler, so a filler behind it changes nothing
+  getD-filled : (xs : List A) (n i : ℕ) → getD (xs ++ replicate n z) i z ≡ getD xs i z
+  getD-filled [] n i = getD-fill n i
+  getD-filled (x ∷ xs) n zero = refl
+  getD-filled (x ∷ xs) n (suc i) = getD-filled xs n i
+
+  pub getD-padded : (n : ℕ) (xs : List A) (i : ℕ) → getD (padded n z xs) i z ≡ getD xs i z
+  unfolding padded
+  getD-padded n xs i = getD-filled xs (n - length xs) i
+
+-- what stands at the places of a block
+pub block-at : (xs ys zs : List ℕ) → map (λ k. getD (xs ++ (ys ++ zs)) k 0) (upFrom (length xs) (length ys)) ≡ ys
+block-at xs ys zs =
+    let at : ℕ → ℕ = λ k. getD (xs ++ (ys ++ zs)) k 0 in
+    let n : length (map at (upFrom (length xs) (length ys))) ≡ length ys = length-map-upFrom at (length xs) (length ys) in
+    ext-getD 0 (map at (upFrom (length xs) (length ys))) ys n
+    (λ i h. let g : i < length ys = omega arith in
+    getD-map-upFrom at (length xs) (length ys) i 0 g ∙ getD-append-add xs (ys ++ zs) i 0 ∙ List·getD-append ys zs 0 i g)

@@ -11,3 +11,4 @@ pub mod Blocks
 pub mod Distinct
 pub mod Hits
 pub mod Choices
+pub mod Filters

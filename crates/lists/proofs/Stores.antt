@@ -1,13 +1,13 @@
 -- Stores one after another: a run of stores made longer, the images of a list stored one by one, and a cleared list with a run at its front.
 -- Assumes nothing.
-use mathlib.Core.Path.{_≡_, refl, sym, ap, ap₂, _∙_, subst}
+use mathlib.Core.Path.{_≡_, sym, ap, ap₂, _∙_, subst}
 use mathlib.Core.List.{List, [], _∷_, _++_, map, map-append, append-nil}
 use Prim.Native.Nat.{ℕ, zero, suc, _+_, _-_, _≤_, _<_}
 use native.Mathlib.Nat.{add-zero, zero-add, add-suc, suc-add, sub-zero, zero-sub, suc-sub-suc, le-of-lt}
 use native.Mathlib.Numerals.{add-one}
 use native.Mathlib.Omega.{arith}
-use lib.ListN.{length, getD, take, drop, set, replicate, length-map, length-take, length-replicate, length-set, drop-of-length-le}
-use lib.Seq.{sets, sets-eq, length-sets, take-suc, take-all, length-take-le}
+use lib.ListN.{length, getD, take, drop, set, replicate, length-map, length-replicate, drop-of-length-le}
+use lib.Seq.{sets, sets-eq, take-suc, take-all, length-take-le}
 use Rattle.lists.specs.Lists.{padded}
 
 drop-replicate : {A : Type 0} (z : A) (k m : ℕ) → drop k (replicate m z) ≡ replicate (m - k) z

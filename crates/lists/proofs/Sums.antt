@@ -1,7 +1,7 @@
 -- Laws of a sum f 0 + .. + f (k - 1).
 -- Assumes nothing.
 use mathlib.Core.Path.{_≡_, refl, sym, ap, ap₂, _∙_}
-use Prim.Native.Nat.{ℕ, zero, suc, _+_, _<_, zero-le, suc-le-suc}
+use Prim.Native.Nat.{ℕ, zero, suc, _+_, _<_, suc-le-suc}
 use native.Mathlib.Nat.{add-assoc, add-comm, add-zero, zero-add, suc-add, add-suc, zero-lt-suc}
 use native.Mathlib.Omega.{arith}
 use Rattle.lists.specs.Lists.{sum}

@@ -2,7 +2,7 @@
 -- whether all or any do, and a list made up to a length by a filler. Nothing here knows about codes.
 -- What a `let` binds waits until it is read: so the first words of a range of 2 ^ 70 can be looked at without making the rest.
 -- Assumes nothing.
-use Prim.Native.Nat.{ℕ, zero, suc, _+_, _-_, _*_}
+use Prim.Native.Nat.{ℕ, zero, suc, _+_, _-_}
 use mathlib.Core.Bool.{Bool, true, false, cond, _&&_, _||_}
 use mathlib.Core.List.{List, [], _∷_, _++_}
 use lib.ListN.{length, replicate}

@@ -1,13 +1,13 @@
 -- The answers to single questions, from the comparisons that the code makes.
 -- Assumes nothing.
-use mathlib.Core.Path.{_≡_, refl, sym, ap, _∙_}
-use mathlib.Core.Bool.{Bool, true, false, _&&_}
+use mathlib.Core.Path.{_≡_, sym, ap, _∙_}
+use mathlib.Core.Bool.{true, false}
 use Prim.Native.Nat.{ℕ, _+_, _*_, _/_, _%_, _^_, _≤_, _<_}
 use native.Mathlib.Nat.{div-eq-of-lt, lt-of-lt-of-le}
 use native.Mathlib.Omega.{arith}
 use borrow.Author.Tests.{leb-true, ltb-true, lt-ltb, le-ltb, lt-leb, le-leb, eq-eqb, ne-eqb}
 use lib.Dec.{leb, ltb, eqb}
-use lib.Pow.{pow-lt, pow-mono}
+use lib.Pow.{pow-mono}
 use Rattle.lists.proofs.Tests.{and-yes, and-no, both}
 use Rattle.poly.specs.Poly.{bit}
 use Rattle.poly.proofs.Shifts.{shl-one}

@@ -1,12 +1,11 @@
 -- The first question that says no: asked in two parts, and what follows where none says no.
 -- Assumes nothing.
 use mathlib.Core.Path.{_≡_, refl, sym, ap, _∙_}
-use mathlib.Core.Bool.{Bool, true, false, _&&_, cond}
+use mathlib.Core.Bool.{Bool, true, false, cond}
 use mathlib.Core.List.{List, [], _∷_, _++_}
-use Prim.Native.Nat.{ℕ, zero, suc, _<_}
+use Prim.Native.Nat.{ℕ, zero, suc}
 use native.Mathlib.Nat.{suc-ne-zero}
 use lib.Dec.{T, ltb}
-use Rattle.lists.specs.Lists.{all}
 use Rattle.order.specs.Questions.{Question, firstNo, unless}
 
 -- the first number, or where it is 0 the second

@@ -1,17 +1,17 @@
 -- What follows from the questions about a record: the refusals in their order, and that an accepted record's fields are its order.
 -- Assumes nothing.
 use mathlib.Core.Path.{_≡_, refl, sym, ap, ap₂, _∙_, subst}
-use mathlib.Core.Bool.{Bool, true, false, _&&_}
-use mathlib.Core.List.{List, [], _∷_, _++_, map}
+use mathlib.Core.Bool.{Bool, true, false}
+use mathlib.Core.List.{List, [], _∷_, _++_}
 use Prim.Native.Nat.{ℕ, zero, suc, _+_, _-_, _*_, _≤_, _<_}
-use native.Mathlib.Nat.{not-suc-le-zero, le-of-suc-le-suc, suc-ne-zero}
+use native.Mathlib.Nat.{not-suc-le-zero, le-of-suc-le-suc}
 use native.Mathlib.Omega.{arith}
 use borrow.Author.Tests.{lt-leb, le-leb, leb-true, eqb-true}
 use lib.Dec.{leb, eqb}
 use lib.ListN.{length, getD, take, List·getD-eq-default}
 use Rattle.lists.specs.Lists.{upFrom}
 use Rattle.lists.proofs.Tests.{and-yes, and-no, both}
-use Rattle.order.specs.Questions.{Question, firstNo, from-to, orderNumbers, generatorQuestions}
+use Rattle.order.specs.Questions.{firstNo, from-to, orderNumbers, generatorQuestions}
 use Rattle.order.specs.Order as Spec
 use Rattle.order.specs.Order.{be16, lengthRight, versionRight, countRight, recordQuestions, orderQuestions, readGenerators, readFields, reading, read}
 use Rattle.order.specs.Answers.{recordOf, fieldsOf, readingOf}

@@ -24,7 +24,7 @@ use Rattle.poly.proofs.Sum.{for-bits, bit-lt, bit-⊕, ⊕-shifted}
 use Rattle.poly.proofs.Bits.{bit-zero, eq-by-bits, fromBits-lt, fromBits-last}
 use Rattle.poly.proofs.Remainder.{remainder-zero, remainder-⊕, remainder-lt}
 use Rattle.poly.proofs.Halves.{length-halves, getD-halves}
-use Rattle.parity.specs.Parity.{checkRow, checkTable, even, allEven}
+use Rattle.parity.specs.Parity.{checkRow, checkTable, oddness, even, allEven}
 use Rattle.parity.proofs.Ones.{ones-⊕, ones-and-block, ones-and-digits, ones-and-none}
 
 -- ---- a row
@@ -110,7 +110,7 @@ ones-at-row row low high h =
 
 even-bit : (N m p low high i : ℕ) → low < 2 ^ 64 → high * 2 ^ 64 + low < 2 ^ N → i < m
     → even (checkTable N m p) low high i ≡ eqb (bit i (remainder m p (high * 2 ^ 64 + low))) 0
-unfolding even
+unfolding even oddness
 even-bit N m p low high i small short h =
     let at = getD-table N m p i h in
     ap (λ (x : ℕ). eqb x 0)

@@ -7,7 +7,7 @@ use mathlib.Core.List.{List, map, flatMap}
 use lib.Bits.{bitAnd}
 use lib.Count.{ones}
 use lib.Dec.{eqb}
-use lib.ListN.{getD}
+use lib.ListN.{getD, drop}
 use Rattle.lists.specs.Lists.{upFrom, all, padded}
 use Rattle.poly.specs.Poly.{bit, fromBits, _⊕_, remainder}
 use Rattle.poly.specs.Word.{halves}
@@ -20,10 +20,21 @@ checkRow N m p i = fromBits N (λ j. bit i (remainder m p (2 ^ j)))
 unfoldable pub checkTable : ℕ → ℕ → ℕ → List ℕ
 checkTable N m p = padded 24 0 (flatMap halves (map (checkRow N m p) (upFrom 0 m)))
 
--- the word with these halves has an even number of ones at the places of row i
-unfoldable pub even : List ℕ → ℕ → ℕ → ℕ → Bool
-even rows low high i = eqb (ones (bitAnd low (getD rows (2 * i) 0) ⊕ bitAnd high (getD rows (2 * i + 1) 0)) % 2) 0
+-- the ones, modulo 2, that the word with these halves has at the places of row i
+unfoldable pub oddness : List ℕ → ℕ → ℕ → ℕ → ℕ
+oddness rows low high i = ones (bitAnd low (getD rows (2 * i) 0) ⊕ bitAnd high (getD rows (2 * i + 1) 0)) % 2
 
--- of each of the m rows
+-- of four rows from row i on, added up
+unfoldable pub oddOfFour : List ℕ → ℕ → ℕ → ℕ → ℕ
+oddOfFour rows low high i = oddness rows low high i + oddness rows low high (i + 1) + oddness rows low high (i + 2) + oddness rows low high (i + 3)
+
+unfoldable pub even : List ℕ → ℕ → ℕ → ℕ → Bool
+even rows low high i = eqb (oddness rows low high i) 0
+
+-- each of the m rows from row i on is even
+unfoldable pub evenFrom : List ℕ → ℕ → ℕ → ℕ → ℕ → Bool
+evenFrom rows m i low high = all (even rows low high) (drop i (upFrom 0 m))
+
+-- each of the m rows is
 unfoldable pub allEven : List ℕ → ℕ → ℕ → ℕ → Bool
 allEven rows m low high = all (even rows low high) (upFrom 0 m)

@@ -4,7 +4,7 @@ ghost use mathlib.Core.Path.{_≡_};
 ghost use Prim.Native.Nat.{_+_, _*_, _^_, _<_, _≤_};
 ghost use Rattle.poly.specs.Poly.{HasDegree};
 ghost use Rattle.poly.specs.Word.{number};
-ghost use Rattle.parity.specs.Parity.{checkRow, checkTable, allEven};
+ghost use Rattle.parity.specs.Parity.{checkRow, checkTable, oddness, oddOfFour, evenFrom, allEven};
 use poly::register::times_x;
 use poly::word::Word;
 use poly::word::make;
@@ -59,19 +59,53 @@ pub fn check_table(n: u64, m: u64, p: u64) -> [u64; 24]
     rows
 }
 
-// Whether the word with these halves has an even number of ones at the places of each of the m rows: the polynomial divides it.
-pub fn all_even(rows: &[u64; 24], m: u64, low: u64, high: u64) -> bool
-    requires { ⌜ m ≤ 12 ⌝ }
-    ensures { λ r. ⌜ r ≡ allEven (now (rows .entry)) m low high ⌝ }
+// The ones, modulo 2, that the word with these halves has at the places of row i.
+fn oddness_of(rows: &[u64; 24], i: usize, low: u64, high: u64) -> u32
+    requires { ⌜ i < 12 ⌝ }
+    ensures { λ r. ⌜ (r ≡ oddness (now (rows .entry)) low high i) × (r < 2) ⌝ }
 {
-    let mut i = 0;
+    let at = 2 * i;
+    let common = (low & rows[at]) ^ (high & rows[at + 1]);
+    u64::count_ones(common) % 2
+}
+
+// The rows from row `first` on, one by one.
+fn rest_even(rows: &[u64; 24], m: usize, first: usize, low: u64, high: u64) -> bool
+    requires { ⌜ (m ≤ 12) × (first ≤ m) ⌝ }
+    ensures { λ r. ⌜ r ≡ evenFrom (now (rows .entry)) m first low high ⌝ }
+{
+    let mut i = first;
     while i < m {
-        let at = 2 * i as usize;
-        let common = (low & rows[at]) ^ (high & rows[at + 1]);
-        if u64::count_ones(common) % 2 == 1 {
+        if oddness_of(rows, i, low, high) != 0 {
             return false;
         }
         i += 1;
     }
     true
+}
+
+// How many of four rows from row i on are odd.
+fn odd_of_four(rows: &[u64; 24], i: usize, low: u64, high: u64) -> u32
+    requires { ⌜ i + 4 ≤ 12 ⌝ }
+    ensures { λ r. ⌜ r ≡ oddOfFour (now (rows .entry)) low high i ⌝ }
+{
+    let two = oddness_of(rows, i, low, high) + oddness_of(rows, i + 1, low, high);
+    two + oddness_of(rows, i + 2, low, high) + oddness_of(rows, i + 3, low, high)
+}
+
+// Whether the word with these halves has an even number of ones at the places of each of the m rows: the polynomial divides it. Four rows are looked
+// at together: at which row a word fails cannot be foretold, that it fails at one of four nearly can.
+pub fn all_even(rows: &[u64; 24], m: u64, low: u64, high: u64) -> bool
+    requires { ⌜ m ≤ 12 ⌝ }
+    ensures { λ r. ⌜ r ≡ allEven (now (rows .entry)) m low high ⌝ }
+{
+    let n = m as usize;
+    let mut i = 0;
+    while i + 4 <= n {
+        if odd_of_four(rows, i, low, high) != 0 {
+            return false;
+        }
+        i += 4;
+    }
+    rest_even(rows, n, i, low, high)
 }

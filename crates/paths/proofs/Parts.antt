@@ -1,15 +1,15 @@
 -- The part of one weight: sums that stop at a limit, and when the part fits.
 -- Assumes nothing.
-use mathlib.Core.Path.{_≡_, refl, sym, ap, ap₂, _∙_, subst}
-use mathlib.Core.Bool.{Bool, true, false, cond, _&&_}
+use mathlib.Core.Path.{_≡_, refl, sym, ap, ap₂, _∙_}
+use mathlib.Core.Bool.{Bool, true, false, cond}
 use mathlib.Core.List.{List, []}
-use Prim.Native.Nat.{ℕ, zero, suc, _+_, _-_, _*_, _/_, _≤_, _<_}
+use Prim.Native.Nat.{ℕ, suc, _+_, _-_, _*_, _/_, _≤_, _<_}
 use native.Mathlib.Nat.{le-refl, lt-of-not-le}
 use native.Mathlib.Decide.{le-ind, decLe}
 use native.Mathlib.Numerals.{add-one}
 use native.Mathlib.Omega.{arith}
 use borrow.Author.Tests.{lt-ltb, le-ltb, le-leb, lt-leb}
-use lib.Dec.{leb, ltb}
+use lib.Dec.{leb}
 use lib.ListN.{length, getD, take, drop}
 use Rattle.lists.specs.Lists.{sum}
 use Rattle.lists.proofs.Sums.{sum-last}
@@ -22,11 +22,11 @@ before-none : (counts : List ℕ) → pathsBefore counts 0 ≡ 0
 unfolding pathsBefore sum
 before-none counts = refl
 
-before-more : (counts : List ℕ) (k : ℕ) → pathsBefore counts (suc k) ≡ pathsBefore counts k + getD counts k 0
+pub before-more : (counts : List ℕ) (k : ℕ) → pathsBefore counts (suc k) ≡ pathsBefore counts k + getD counts k 0
 unfolding pathsBefore
 before-more counts k = sum-last k (λ j. getD counts j 0)
 
-before-mono : (counts : List ℕ) (k w : ℕ) → k ≤ w → pathsBefore counts k ≤ pathsBefore counts w
+pub before-mono : (counts : List ℕ) (k w : ℕ) → k ≤ w → pathsBefore counts k ≤ pathsBefore counts w
 before-mono counts k w h =
     le-ind (λ (j : ℕ). pathsBefore counts k ≤ pathsBefore counts j) (le-refl (pathsBefore counts k)) (λ j l e. omega (arith, before-more counts j)) w h
 

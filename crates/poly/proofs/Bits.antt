@@ -1,7 +1,7 @@
 -- Laws of single digits: a number from its digits, the digits of a number, and that numbers with the same digits are equal.
 -- Assumes nothing.
 use mathlib.Core.Path.{_≡_, refl, sym, ap, ap₂, _∙_, subst}
-use Prim.Native.Nat.{ℕ, zero, suc, _+_, _*_, _/_, _%_, _^_, _≤_, _<_, zero-le, suc-le-suc}
+use Prim.Native.Nat.{ℕ, zero, suc, _+_, _*_, _/_, _%_, _^_, _≤_, _<_, suc-le-suc}
 use native.Mathlib.Nat.{not-suc-le-zero, le-of-suc-le-suc, zero-lt-suc, div-one, div-div-eq-div-mul, div-lt-iff-lt-mul, div-eq-of-lt, lt-of-lt-of-le, pow-suc, pow-succ', mul-left-comm, add-comm, mod-add-div}
 use native.Mathlib.Omega.{arith}
 use lib.Arith.{lt-one}

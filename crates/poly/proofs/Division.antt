@@ -1,8 +1,8 @@
 -- Division a bit at a time, from the highest: the remainder of the word without its i lowest bits, and then without i - 1 of them.
 -- Assumes nothing.
-use mathlib.Core.Path.{_≡_, refl, sym, ap, ap₂, _∙_, subst}
-use Prim.Native.Nat.{ℕ, zero, suc, _+_, _-_, _*_, _/_, _%_, _^_, _≤_, _<_}
-use native.Mathlib.Nat.{not-suc-le-zero, div-eq-of-lt, div-one, div-div-eq-div-mul, div-lt-iff-lt-mul, pow-suc, lt-of-lt-of-le, mul-le-mul-left, le-of-eq, le-trans}
+use mathlib.Core.Path.{_≡_, sym, ap, _∙_}
+use Prim.Native.Nat.{ℕ, zero, suc, _-_, _*_, _/_, _%_, _^_, _≤_, _<_}
+use native.Mathlib.Nat.{not-suc-le-zero, div-eq-of-lt, div-one, div-div-eq-div-mul, div-lt-iff-lt-mul, pow-suc, le-of-eq}
 use native.Mathlib.Numerals.{sub-one}
 use native.Mathlib.Omega.{arith}
 use lib.Pow.{pow-pos, pow-mono}

@@ -1,11 +1,10 @@
 -- Laws of the product of polynomials: its equation a digit at a time, and that it is a commutative product that distributes over the sum.
 -- Assumes nothing.
-use mathlib.Core.Path.{_≡_, refl, sym, ap, ap₂, _∙_}
-use Prim.Native.Nat.{ℕ, zero, suc, _+_, _*_, _/_, _%_, _<_}
+use mathlib.Core.Path.{_≡_, sym, ap, ap₂, _∙_}
+use Prim.Native.Nat.{ℕ, _+_, _*_, _/_, _%_, _<_}
 use native.Mathlib.Nat.{zero-mul, mul-zero, one-mul, mul-one, mul-left-comm}
 use lib.Arith.{bin-ind}
-use lib.Bits.{differ}
-use Rattle.poly.specs.Poly.{_⊕_, horner, _⊗_}
+use Rattle.poly.specs.Poly.{_⊕_, _⊗_}
 use Rattle.poly.proofs.Sum.{mod2-lt, for-bits, half-push, mod2-push, ⊕-zero-l, ⊕-interchange, double-⊕, halves-⊕, digit-times-⊕, differ-times}
 use Rattle.poly.proofs.Horner.{horner-step, horner-zero, horner-⊕, LinearStep}
 

@@ -1,17 +1,16 @@
 -- Laws of the remainder: its equation a digit at a time (the register's), that it is linear, below 2^m and the only one, and that p divides u
 -- exactly when the remainder of u is 0.
 -- Assumes nothing.
-use mathlib.Core.Path.{_≡_, refl, sym, ap, ap₂, _∙_, subst}
+use mathlib.Core.Path.{_≡_, sym, ap, ap₂, _∙_, subst}
 use mathlib.Core.Logic.{_↔_}
-use Prim.Native.Nat.{ℕ, zero, suc, _+_, _*_, _/_, _%_, _^_, _≤_, _<_}
-use native.Mathlib.Nat.{zero-mul, one-mul, zero-div, add-zero, div-add-mod, div-eq-of-lt, mod-eq-of-lt, le-refl, div-le-self, lt-of-le-of-lt, pow-suc, mul-comm, div-lt-iff-lt-mul, lt-of-lt-of-le, le-of-eq}
+use Prim.Native.Nat.{ℕ, suc, _+_, _*_, _/_, _%_, _^_, _<_}
+use native.Mathlib.Nat.{zero-mul, one-mul, zero-div, add-zero, div-add-mod, mod-eq-of-lt, le-refl, div-le-self, lt-of-le-of-lt, mul-comm, div-lt-iff-lt-mul, le-of-eq}
 use native.Mathlib.Omega.{arith}
 use lib.Dec.{lit<}
 use lib.Arith.{bin-ind}
-use lib.Pow.{split, pow-pos}
-use lib.Bits.{differ}
-use Rattle.poly.specs.Poly.{bit, _⊕_, horner, _⊗_, HasDegree, register, remainder, Divides}
-use Rattle.poly.proofs.Sum.{mod2-lt, bit-lt, for-bits, bit-⊕, half-push, mod2-push, ⊕-zero-l, ⊕-zero-r, ⊕-self, ⊕-assoc, ⊕-comm, ⊕-cancel-r, ⊕-interchange, ⊕-push, ⊕-shr, eq-of-⊕-zero, double-⊕, push-⊕, halves-⊕, digit-times-⊕, differ-times}
+use lib.Pow.{pow-pos}
+use Rattle.poly.specs.Poly.{bit, _⊕_, _⊗_, HasDegree, register, remainder, Divides}
+use Rattle.poly.proofs.Sum.{mod2-lt, bit-lt, for-bits, bit-⊕, half-push, mod2-push, ⊕-zero-l, ⊕-zero-r, ⊕-self, ⊕-assoc, ⊕-interchange, ⊕-push, ⊕-shr, eq-of-⊕-zero, double-⊕, push-⊕, halves-⊕, differ-times}
 use Rattle.poly.proofs.Bits.{bit-zero, bit-above}
 use Rattle.poly.proofs.Horner.{horner-step, horner-zero, horner-⊕, LinearStep}
 use Rattle.poly.proofs.Product.{⊗-zero, ⊗-step, ⊗-push}

@@ -1,14 +1,11 @@
 -- Laws of the sum of polynomials, and of their coefficients.
 -- Assumes nothing.
 use mathlib.Core.Path.{_≡_, refl, sym, ap, ap₂, _∙_, subst}
-use Prim.Native.Nat.{ℕ, zero, suc, _+_, _*_, _/_, _%_, _^_, _≤_, _<_, zero-le}
-use native.Mathlib.Nat.{not-suc-le-zero, le-of-suc-le-suc, lt-of-le-of-lt, mod-lt, zero-lt-suc, one-mul, zero-mul, mul-comm, mul-zero, mul-one, div-add-mod, div-add-mod', pow-suc, add-zero, add-comm, mod-eq-of-lt, div-one, div-div-eq-div-mul}
-use native.Mathlib.Numerals.{add-one}
-use native.Mathlib.Omega.{arith}
+use Prim.Native.Nat.{ℕ, zero, suc, _+_, _*_, _/_, _%_, _^_, _<_, zero-le}
+use native.Mathlib.Nat.{not-suc-le-zero, le-of-suc-le-suc, lt-of-le-of-lt, mod-lt, one-mul, zero-mul, mul-comm, div-add-mod, div-add-mod', add-zero}
 use lib.Dec.{lit<}
-use lib.Arith.{digits-div, digits-mod, bin-ind, lt-one}
-use lib.Pow.{pow-pos, shr-lt, shr-shr}
-use lib.Bits.{differ, bitXor, xor-step, xor-shr, xor-mod, xor-comm, xor-zero-l, xor-zero-r, xor-self, xor-lt, xor-shifted, xor-block}
+use lib.Arith.{digits-div, digits-mod, bin-ind}
+use lib.Bits.{differ, bitXor, xor-step, xor-shr, xor-comm, xor-zero-l, xor-zero-r, xor-self, xor-lt, xor-shifted, xor-block}
 use Rattle.poly.specs.Poly.{bit, _⊕_}
 
 -- ---- a binary digit is 0 or 1

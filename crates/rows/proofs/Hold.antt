@@ -1,7 +1,7 @@
 -- Every line of the table of document 01's ● rows is what the definitions give: one equation, by computation.
 -- Assumes nothing.
 use mathlib.Core.Path.{_≡_, refl}
-use mathlib.Core.List.{List, map, flatMap}
+use mathlib.Core.List.{map, flatMap}
 use lib.Count.{onesIn, ones}
 use Rattle.lists.specs.Lists.{upFrom, filter, count, all, any, padded}
 use Rattle.poly.specs.Poly.{bit, _⊕_, digitsThrough, horner, _⊗_, register, remainder}

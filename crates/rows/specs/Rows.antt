@@ -2,16 +2,16 @@
 -- line's figures are what the definitions give. Where document 01 leaves a figure of a row out, the line states it all the same.
 -- Polynomials are in hexadecimal, the rest in decimal, as in the document. Code S has v = 1 and generators 1, 3.
 -- Assumes nothing.
-use Prim.Native.Nat.{ℕ, zero, suc, _+_, _*_}
+use Prim.Native.Nat.{ℕ, zero, _*_}
 use mathlib.Core.List.{List, [], _∷_}
-use lib.ListN.{length, take, replicate}
+use lib.ListN.{length, replicate}
 use Rattle.crc.specs.Check.{append}
 use Rattle.code.specs.Weight.{weight}
 use Rattle.order.specs.Questions.{workSize}
 use Rattle.order.specs.Order.{Order}
 use Rattle.events.specs.Events.{ErrorEvent, events, noEvent}
 use Rattle.paths.specs.Paths.{paths, plainCounts}
-use Rattle.search.specs.Calls.{Answer, found, refused, tied, Tables, searchCall}
+use Rattle.search.specs.Calls.{Answer, found, tied, Tables, searchCall}
 
 -- what a line asks: the row of an order; the weight of a word; the word of a message
 pub data Ask : Type 0 where

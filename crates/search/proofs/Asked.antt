@@ -1,12 +1,11 @@
 -- The questions of the search in their order, and what an accepted call may use.
 -- Assumes nothing.
 use Prim.Native.Nat.{ℕ, _≤_, _<_}
-use native.Mathlib.Omega.{arith}
-use mathlib.Core.Path.{_≡_, refl, sym, ap, _∙_}
+use mathlib.Core.Path.{_≡_, sym, _∙_}
 use mathlib.Core.Bool.{true, false}
 use mathlib.Core.List.{List, [], _∷_, _++_}
 use lib.ListN.{length}
-use borrow.Author.Tests.{le-leb, lt-leb, leb-true}
+use borrow.Author.Tests.{le-leb, lt-leb}
 use Rattle.order.specs.Questions.{Question, firstNo, from-to, generatorCount, room, workSize, checkPolynomial, orderNumbers, generatorQuestions}
 use Rattle.order.specs.Order.{orderQuestions}
 use Rattle.order.proofs.FirstNo.{firstNo-none, firstNo-yes, firstNo-no, refused-first, refused-later, yes-of-firstNo}

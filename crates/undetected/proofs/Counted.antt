@@ -2,8 +2,6 @@
 -- that stand in the lent list so far.
 -- Assumes nothing.
 use Prim.Native.Nat.{ℕ, suc, _+_, _-_, _*_, _≤_, _<_}
-use native.Mathlib.Nat.{le-refl}
-use native.Mathlib.Decide.{le-ind}
 use native.Mathlib.Numerals.{add-one}
 use native.Mathlib.Omega.{arith}
 use mathlib.Core.Path.{_≡_, sym, ap, ap₂, _∙_, fun-ext}
@@ -13,30 +11,25 @@ use lib.Dec.{eqb}
 use lib.ListN.{length, getD, take, drop, set, length-append, length-drop, take-append-drop}
 use lib.Seq.{length-take-le, drop-cons, append-snoc, set-at}
 use Rattle.lists.specs.Lists.{upFrom, count}
+use Rattle.lists.proofs.Filters.{between-le}
 use Rattle.lists.proofs.Lengths.{length-map-upFrom, upFrom-last}
-use Rattle.lists.proofs.Sums.{sum-last}
 use Rattle.poly.specs.Poly.{remainder}
 use Rattle.parity.specs.Parity.{checkTable}
 use Rattle.parity.proofs.Divided.{all-even-divided}
 use Rattle.paths.specs.Part.{pathsBefore}
+use Rattle.paths.proofs.Parts.{before-more, before-mono}
 use Rattle.undetected.specs.Steps.{wordAt, dividedBetween, dividedOf, evenBetween, upTo, countedFrom, Readable, Divisor}
-use Rattle.undetected.proofs.Counting.{between-le, upTo-within}
+use Rattle.undetected.proofs.Counting.{upTo-within}
 
 -- ---- where the words of a weight stand
 
 module _ (plain : List ℕ) where
-  pub before-more : (w : ℕ) → pathsBefore plain (w + 1) ≡ pathsBefore plain w + getD plain w 0
-  unfolding pathsBefore
-  before-more w = ap (pathsBefore plain) (add-one w) ∙ sum-last w (λ j. getD plain j 0)
-
-  before-mono : (k w : ℕ) → k ≤ w → pathsBefore plain k ≤ pathsBefore plain w
-  before-mono k w h =
-      le-ind (λ (j : ℕ). pathsBefore plain k ≤ pathsBefore plain j) (le-refl (pathsBefore plain k))
-      (λ j l e. omega (arith, before-more j, ap (pathsBefore plain) (add-one j))) w h
+  pub before-next : (w : ℕ) → pathsBefore plain (w + 1) ≡ pathsBefore plain w + getD plain w 0
+  before-next w = ap (pathsBefore plain) (add-one w) ∙ before-more plain w
 
   -- those of weight w end where those below d end, or before
   pub before-end : (w d at : ℕ) → w < d → at ≡ pathsBefore plain w → at + getD plain w 0 ≤ pathsBefore plain d
-  before-end w d at h e = let s = before-mono (w + 1) d (omega arith) in omega (arith, before-more w)
+  before-end w d at h e = let s = before-mono plain (w + 1) d (omega arith) in omega (arith, before-next w)
 
 -- ---- the words of one weight
 

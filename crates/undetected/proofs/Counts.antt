@@ -9,12 +9,13 @@ use mathlib.Core.Path.{_≡_, refl, sym, ap, ap₂, _∙_, subst, fun-ext}
 use mathlib.Core.Bool.{Bool}
 use mathlib.Core.List.{List, [], _∷_, _++_, map, flatMap, List·Memᴰ, List·Memᴰ·head, List·Memᴰ·tail}
 use lib.Dec.{eqb}
-use lib.ListN.{length, getD, drop, replicate, List·getD-append, length-replicate}
+use lib.ListN.{length, getD, drop, replicate, length-replicate}
 use lib.Pow.{pow-pos, pow-mono, split}
-use lib.Seq.{getD-append-add, ext-getD, sets-eq}
+use lib.Seq.{sets-eq}
 use Rattle.lists.specs.Lists.{upFrom, count, padded}
 use Rattle.lists.proofs.Blocks.{flatMap-append, map-cong-on}
-use Rattle.lists.proofs.Lengths.{length-flatMap, getD-map-upFrom, length-map-upFrom, length-padded, total-upFrom, upFrom-append}
+use Rattle.lists.proofs.Filters.{count-filter, count-map}
+use Rattle.lists.proofs.Lengths.{length-flatMap, getD-padded, block-at, length-map-upFrom, length-padded, total-upFrom, upFrom-append}
 use Rattle.lists.proofs.Member.{upFrom-bounds}
 use Rattle.lists.proofs.Stores.{sets-cleared}
 use Rattle.lists.proofs.Sums.{sum-cong}
@@ -28,39 +29,13 @@ use Rattle.paths.specs.Part.{pathsBefore}
 use Rattle.paths.proofs.Listed.{of-paths, length-plainCounts, plain-count-at}
 use Rattle.undetected.specs.Undetected.{passes, undetectedCount, undetectedCounts}
 use Rattle.undetected.specs.Steps.{wordAt, dividedBetween, dividedOf, dividedCounts, countedFrom, Readable}
-use Rattle.undetected.proofs.Counting.{count-filter, count-map}
 
 -- ---- lists
-
-module _ {A : Type 0} (z : A) where
-  getD-fill : (n i : ℕ) → getD (replicate n z) i z ≡ z
-  getD-fill zero i = refl
-  getD-fill (suc n) zero = refl
-  getD-fill (suc n) (suc i) = getD-fill n i
-
-  -- past its end a list reads as the filler, so a filler behind it changes nothing
-  getD-filled : (xs : List A) (n i : ℕ) → getD (xs ++ replicate n z) i z ≡ getD xs i z
-  getD-filled [] n i = getD-fill n i
-  getD-filled (x ∷ xs) n zero = refl
-  getD-filled (x ∷ xs) n (suc i) = getD-filled xs n i
-
-  getD-padded : (n : ℕ) (xs : List A) (i : ℕ) → getD (padded n z xs) i z ≡ getD xs i z
-  unfolding padded
-  getD-padded n xs i = getD-filled xs (n - length xs) i
 
 getD-below : (xs : List ℕ) (b : ℕ) → 0 < b → ((x : ℕ) → List·Memᴰ x xs → x < b) → (i : ℕ) → getD xs i 0 < b
 getD-below [] b h below i = h
 getD-below (x ∷ xs) b h below zero = below x (List·Memᴰ·head refl)
 getD-below (x ∷ xs) b h below (suc i) = getD-below xs b h (λ y m. below y (List·Memᴰ·tail m)) i
-
--- what stands at the places of a block
-block-at : (xs ys zs : List ℕ) → map (λ k. getD (xs ++ (ys ++ zs)) k 0) (upFrom (length xs) (length ys)) ≡ ys
-block-at xs ys zs =
-    let at : ℕ → ℕ = λ k. getD (xs ++ (ys ++ zs)) k 0 in
-    let n : length (map at (upFrom (length xs) (length ys))) ≡ length ys = length-map-upFrom at (length xs) (length ys) in
-    ext-getD 0 (map at (upFrom (length xs) (length ys))) ys n
-    (λ i h. let g : i < length ys = omega arith in
-    getD-map-upFrom at (length xs) (length ys) i 0 g ∙ getD-append-add xs (ys ++ zs) i 0 ∙ List·getD-append ys zs 0 i g)
 
 -- ---- the path table and the plain counts
 

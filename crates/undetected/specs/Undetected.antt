@@ -2,7 +2,7 @@
 -- words 1 to 2^N - 1; no event, state, walk or table enters here.
 -- The test "p divides u" is that the remainder is 0; `poly` proves that this is being an ordinary product (`divides⇔remainder-zero`).
 -- Assumes nothing.
-use Prim.Native.Nat.{ℕ, zero, suc}
+use Prim.Native.Nat.{ℕ}
 use mathlib.Core.Bool.{Bool, _&&_}
 use mathlib.Core.List.{List, map}
 use lib.Dec.{eqb}

@@ -56,6 +56,14 @@ impl Tables {
         Tables::sized(events, paths, limit)
     }
 
+    /// The bytes of event and path table of so many entries, where they can be
+    /// counted.
+    pub fn bytes(events: usize, paths: usize) -> Option<usize> {
+        let events = events.checked_mul(size_of::<Event>())?;
+        let paths = paths.checked_mul(PATH_BYTES)?;
+        events.checked_add(paths)
+    }
+
     fn sized(events: usize, paths: usize, limit: usize) -> Tables {
         Tables {
             events: vec![Event::default(); events],
@@ -204,6 +212,13 @@ mod tests {
         assert_eq!(search(4, 13), Some(Refusal::Events));
         assert_eq!(search(4, 12), Some(Refusal::Events));
         assert_eq!(search(0, 0), Some(Refusal::Events));
+    }
+
+    #[test]
+    fn bytes_of_both_tables() {
+        assert_eq!(Tables::bytes(512, 2048), Some(512 * 40 + 2048 * 16));
+        assert_eq!(Tables::bytes(usize::MAX / 40, usize::MAX / 16), None);
+        assert_eq!(Tables::bytes(usize::MAX, 0), None);
     }
 
     #[test]

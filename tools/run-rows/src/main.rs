@@ -5,7 +5,7 @@ use std::io::{self, Write};
 use std::process::{Command, ExitCode, Stdio};
 
 const HELP: &str = "\
-usage: run-rows [--options-style ref|plain] PROGRAM FILE...
+usage: run-rows [--options-style ref|sized|plain] PROGRAM FILE...
        run-rows --plain PROGRAM FILE...
 
 Runs PROGRAM on every case of the files, the record on standard input, and
@@ -13,6 +13,7 @@ compares standard output byte for byte. A line for each failure; the last line
 is `N passed, M failed`.
 
   ref      (the rule) PROGRAM is called as dso-ref: -, --events, --paths, --of
+  sized    the same, but --events and --paths are always given
   plain    PROGRAM takes no arguments: only the cases with default tables and
            without an `of` line are run and counted
 
@@ -20,9 +21,13 @@ Exit status: 0 all passed; 1 some failed, or none ran; 2 bad arguments, or a
 file cannot be read, has no case or is not understood.
 ";
 
+/// The tables of a case that names none.
+const DEFAULT: (&str, &str) = ("512", "2048");
+
 #[derive(Clone, Copy, PartialEq)]
 enum Style {
     Ref,
+    Sized,
     Plain,
 }
 
@@ -52,8 +57,11 @@ fn read_arguments(arguments: &[String]) -> Result<(Style, &str, &[String]), Stri
         let (chosen, used) = match (option.as_str(), value) {
             ("--plain", _) => (Style::Plain, 1),
             ("--options-style", Some("ref")) => (Style::Ref, 2),
+            ("--options-style", Some("sized")) => (Style::Sized, 2),
             ("--options-style", Some("plain")) => (Style::Plain, 2),
-            ("--options-style", _) => return Err(format!("{option}: ref or plain (see --help)")),
+            ("--options-style", _) => {
+                return Err(format!("{option}: ref, sized or plain (see --help)"))
+            }
             _ => return Err(format!("{option}: no such option (see --help)")),
         };
         style = chosen;
@@ -73,7 +81,7 @@ fn run_all(style: Style, program: &str, files: &[String]) -> Result<bool, String
         let cases = cases::read(&text).map_err(|wrong| format!("{file}: {wrong}"))?;
         for case in cases
             .iter()
-            .filter(|case| style == Style::Ref || case.plain())
+            .filter(|case| style != Style::Plain || case.plain())
         {
             match run(style, program, case) {
                 Ok(()) => passed += 1,
@@ -119,9 +127,13 @@ fn run(style: Style, program: &str, case: &Case) -> Result<(), String> {
 
 fn command(style: Style, program: &str, case: &Case) -> Command {
     let mut command = Command::new(program);
-    if style == Style::Ref {
+    if style != Style::Plain {
         command.arg("-");
-        if let Some((events, paths)) = &case.tables {
+        let sizes = match &case.tables {
+            Some((events, paths)) => Some((events.as_str(), paths.as_str())),
+            None => (style == Style::Sized).then_some(DEFAULT),
+        };
+        if let Some((events, paths)) = sizes {
             command.args(["--events", events, "--paths", paths]);
         }
         if let Some(polynomial) = &case.of {

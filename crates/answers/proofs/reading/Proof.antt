@@ -1,7 +1,7 @@
 -- Each case as the definition has it.
 -- Assumes nothing.
-use mathlib.Core.Path.{_≡_, refl, sym, ap, _∙_}
-use Rattle.answers.specs.Cases.{ofRecord, noRecord, ofReading}
+use mathlib.Core.Path.{sym, ap, _∙_}
+use Rattle.answers.specs.Cases.{noRecord, ofReading}
 use borrow.Author.Needs.{needs}
 use Rattle.answers.proofs.reading.Statement.{statement}
 use Rattle.answers.proofs.reading.Tie as tie

@@ -1,6 +1,6 @@
 -- Each case as the definition has it.
 -- Assumes nothing.
-use mathlib.Core.Path.{_≡_, refl, sym, ap, _∙_}
+use mathlib.Core.Path.{sym, ap, _∙_}
 use Rattle.answers.specs.Cases.{ofWeighed}
 use borrow.Author.Needs.{needs}
 use Rattle.answers.proofs.weighed.Statement.{statement}

@@ -9,7 +9,7 @@ use lib.ListN.{length, getD}
 use Rattle.paths.specs.Part.{pathsBefore}
 use Rattle.paths.proofs.Parts.{sum-none}
 use Rattle.undetected.specs.Steps.{dividedCounts, Divisor}
-use Rattle.undetected.proofs.Counted.{before-more, before-end}
+use Rattle.undetected.proofs.Counted.{before-next, before-end}
 use Rattle.choice.proofs.Candidates.{few-candidates, degree-of}
 use Rattle.choice.proofs.Weighed.{Agree, Verdict, verdict}
 use Rattle.choice.proofs.Comparing.{bestOf, best-length, Met, met-same, met-limit, met-length}
@@ -180,7 +180,7 @@ loop-again c =
     let l = v .before .before .before .before .before in
     let i = l .loop .inv in
     let h : l .loop .w + 1 ≤ start l .args .d = omega (arith, v .before .before .before .before .loop-test .taken) in
-    (i .0, i .1, i .2, h, ap₂ _+_ (i .4) refl ∙ sym (before-more _ _), verdict-at v .level (omega (arith, c .if2 .left, c .before .if1 .left)))
+    (i .0, i .1, i .2, h, ap₂ _+_ (i .4) refl ∙ sym (before-next _ _), verdict-at v .level (omega (arith, c .if2 .left, c .before .if1 .left)))
 
 add-k-3 : tie.Need-add-k-3 Inv-loop μ-loop Inv-candidates μ-candidates
 add-k-3 c = omega arith

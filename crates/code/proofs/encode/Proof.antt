@@ -1,9 +1,8 @@
 -- Refused by one of the questions with the output as it was, or encoded.
 -- Assumes nothing.
-use mathlib.Core.Path.{_≡_, refl, sym, _∙_}
+use mathlib.Core.Path.{refl, sym, _∙_}
 use native.Mathlib.Omega.{arith}
 use borrow.Author.Tests.{not-true, not-false, ltb-true}
-use lib.ListN.{length}
 use Rattle.code.specs.Calls.{outputAfter}
 use Rattle.code.proofs.Calls.{accepted, encode-refused-early, encode-no-room, encode-refused-late, encode-answered, product-small}
 use borrow.Author.Needs.{needs}

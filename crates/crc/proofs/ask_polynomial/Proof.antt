@@ -1,8 +1,7 @@
 -- The first of three tests that fails, or none.
 -- Assumes nothing.
-use mathlib.Core.Path.{_≡_, refl, sym, ap, _∙_, subst, subst⁻¹}
+use mathlib.Core.Path.{sym, _∙_}
 use borrow.Author.Tests.{not-true, not-false}
-use Rattle.order.specs.Questions.{firstNo}
 use Rattle.order.proofs.FirstNo.{firstNo-none, firstNo-yes, firstNo-no}
 use Rattle.crc.specs.Check.{polynomialQuestions}
 use borrow.Author.Needs.{needs}

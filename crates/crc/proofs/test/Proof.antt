@@ -1,6 +1,6 @@
 -- Refused by one of the questions, or the remainder decides.
 -- Assumes nothing.
-use mathlib.Core.Path.{_≡_, refl, sym, ap, _∙_, subst, subst⁻¹}
+use mathlib.Core.Path.{sym, _∙_}
 use borrow.Author.Tests.{not-true, not-false, ltb-true}
 use Rattle.crc.proofs.Calls.{accepted, test-refused-early, test-refused-late, test-answered}
 use Rattle.crc.proofs.Laws.{test-zero, test-nonzero}

@@ -1,7 +1,5 @@
 -- The call, and its answer as hosts see it.
 -- Assumes nothing.
-use mathlib.Core.Path.{_≡_, refl, sym, ap, _∙_}
-use Rattle.code.specs.Calls.{encodeCall}
 use Rattle.answers.proofs.Hosts.{encode-answer}
 use borrow.Author.Needs.{needs}
 use Rattle.dohvrin.proofs.dohvrin_encode.Statement.{statement}

@@ -1,7 +1,7 @@
 -- The call, and its answer as hosts see it.
 -- Assumes nothing.
 use Rattle.crc.specs.Check.{stripCall}
-use mathlib.Core.Path.{_≡_, sym, ap, _∙_, subst}
+use mathlib.Core.Path.{ap, _∙_}
 use Rattle.answers.proofs.Hosts.{strip-answer}
 use borrow.Author.Needs.{needs}
 use Rattle.dohvrin.proofs.dohvrin_strip.Statement.{statement}

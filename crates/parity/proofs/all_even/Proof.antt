@@ -1,48 +1,33 @@
 -- The invariant: the rows from i on decide.
 -- Assumes nothing.
-use mathlib.Core.Path.{_≡_, refl, sym, _∙_}
+use mathlib.Core.Path.{_≡_, sym, _∙_}
 use Prim.Native.Nat.{_-_, _≤_}
 use native.Mathlib.Omega.{arith}
-use lib.ListN.{drop}
-use Rattle.lists.specs.Lists.{upFrom, all}
-use Rattle.parity.specs.Parity.{even, allEven}
-use Rattle.parity.proofs.Checks.{row-odd, row-even, rows-end}
+use Rattle.parity.specs.Parity.{evenFrom, allEven}
+use Rattle.parity.proofs.Checks.{rows-all, four-odd, four-even}
 use Rattle.parity.proofs.all_even.Statement.{statement}
 use Rattle.parity.proofs.all_even.Tie as tie
 
 abbrev Inv-loop : tie.InvT-loop
-Inv-loop rows m low high i₀ i = (i ≤ m) × (all (even rows low high) (drop i (upFrom 0 m)) ≡ allEven rows m low high)
+Inv-loop rows m low high n i₀ i = (i ≤ n) × (evenFrom rows n i low high ≡ allEven rows n low high)
 
 abbrev μ-loop : tie.MeasureT-loop
-μ-loop rows m low high i₀ i = m - i
+μ-loop rows m low high n i₀ i = n - i
 
 loop-holds : tie.Need-loop-holds Inv-loop μ-loop
-unfolding allEven
-loop-holds c = (omega arith, refl)
+loop-holds c = (omega arith, rows-all _ _ _ _)
 
-mul-at : tie.Need-mul-at Inv-loop μ-loop
-mul-at c = omega arith
+add-loop : tie.Need-add-loop Inv-loop μ-loop
+add-loop c = omega arith
 
-mul-common : tie.Need-mul-common Inv-loop μ-loop
-mul-common c = omega arith
-
-element-copy-out-common : tie.Need-element-copy-out-common Inv-loop μ-loop
-element-copy-out-common c = omega arith
-
-add-common : tie.Need-add-common Inv-loop μ-loop
-add-common c = omega arith
-
-mul-common-2 : tie.Need-mul-common-2 Inv-loop μ-loop
-mul-common-2 c = omega arith
-
-element-copy-out-common-2 : tie.Need-element-copy-out-common-2 Inv-loop μ-loop
-element-copy-out-common-2 c = omega arith
+odd-of-four-requires : tie.Need-odd-of-four-requires Inv-loop μ-loop
+odd-of-four-requires c κs = omega arith
 
 returns : tie.Need-returns Inv-loop μ-loop
 returns c =
-    let l = c .before .before .before .before .loop in
-    let a = c .before .before .before .before .before .args in
-    sym (row-odd (a .rows .now) (a .m) (a .low) (a .high) (l .i) (omega arith) (c .if1 .taken)) ∙ l .inv .1
+    let l = c .before .before .before .loop in
+    let a = c .before .before .before .before .args in
+    sym (four-odd (a .rows .now) (a .m) (a .low) (a .high) (l .i) (omega arith) (λ e. c .if1 .taken (c .before .odd-of-four .ensures ∙ e))) ∙ l .inv .1
 
 add-i : tie.Need-add-i Inv-loop μ-loop
 add-i c = omega arith
@@ -52,15 +37,15 @@ loop-less c = omega arith
 
 loop-again : tie.Need-loop-again Inv-loop μ-loop
 loop-again c =
-    let l = c .before .before .before .before .loop in
-    let a = c .before .before .before .before .before .args in
-    (omega arith, sym (row-even (a .rows .now) (a .m) (a .low) (a .high) (l .i) (omega arith) (c .if1 .left)) ∙ l .inv .1)
+    let l = c .before .before .before .loop in
+    let a = c .before .before .before .before .args in
+    (omega arith, sym (four-even (a .rows .now) (a .m) (a .low) (a .high) (l .i) (omega arith) (sym (c .before .odd-of-four .ensures) ∙ c .if1 .left)) ∙ l .inv .1)
+
+rest-even-requires : tie.Need-rest-even-requires Inv-loop μ-loop
+rest-even-requires c κs = (c .before .before .pre, c .before .loop .inv .0)
 
 returns-2 : tie.Need-returns-2 Inv-loop μ-loop
-returns-2 c =
-    let l = c .before .loop in
-    let a = c .before .before .args in
-    sym (rows-end (a .rows .now) (a .m) (a .low) (a .high) (l .i) (omega arith)) ∙ l .inv .1
+returns-2 c = c .rest-even .ensures ∙ c .before .before .loop .inv .1
 
 pub all-even-spec : {M : Type 1} → statement M
 all-even-spec =
@@ -69,14 +54,11 @@ all-even-spec =
     Inv-loop
     μ-loop
     loop-holds
-    mul-at
-    mul-common
-    element-copy-out-common
-    add-common
-    mul-common-2
-    element-copy-out-common-2
+    add-loop
+    odd-of-four-requires
     returns
     add-i
     loop-less
     loop-again
+    rest-even-requires
     returns-2)

@@ -1,10 +1,8 @@
 -- The invariant: the sum so far, at most the limit.
 -- Assumes nothing.
-use borrow.Author.Needs.{needs}
 use mathlib.Core.Path.{_≡_}
 use Prim.Native.Nat.{_-_, _≤_, zero-le}
 use native.Mathlib.Omega.{arith}
-use lib.ListN.{length, getD}
 use Rattle.paths.specs.Part.{pathsBefore}
 use Rattle.paths.proofs.Parts.{sum-none, sum-more, sum-past, sum-all}
 use Rattle.paths.proofs.paths_before.Statement.{statement}

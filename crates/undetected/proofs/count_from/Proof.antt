@@ -8,7 +8,7 @@ use native.Mathlib.Omega.{arith}
 use lib.ListN.{length, set}
 use Rattle.paths.specs.Part.{pathsBefore}
 use Rattle.undetected.specs.Steps.{countedFrom}
-use Rattle.undetected.proofs.Counted.{before-more, before-end, counted-weight, counted-none, length-counted, counted-next}
+use Rattle.undetected.proofs.Counted.{before-next, before-end, counted-weight, counted-none, length-counted, counted-next}
 use Rattle.undetected.proofs.count_from.Statement.{statement}
 use Rattle.undetected.proofs.count_from.Tie as tie
 
@@ -74,7 +74,7 @@ loop-again c =
     (c .before .before .before .before .before .check-table .ensures) (l .inv .2) (c .count-up-to .ensures) in (
       omega arith,
       omega arith,
-      omega (arith, before-more (a .plain .now) (l .w)),
+      omega (arith, before-next (a .plain .now) (l .w)),
       ap (λ (u : List ℕ). set u (l .w) r) (l .inv .3)
           ∙ counted-next (a .m) (a .p) (a .table .now) (a .plain .now) (a .first) (l .w) (a .undetected .now) (l .inv .0) r (omega (arith, s .pre .3)) one,
     )

@@ -25,28 +25,39 @@ use tally::Tally;
 
 const USAGE: &str = "\
 usage: compare                  every call
+       compare --short          every call on few inputs, as for valgrind
        compare --records N      so many orders by record alone
        compare --rows FILE...   the stored cases of these files";
 
-const INPUTS: u64 = 400_000;
-/// Inputs of a collection, and small orders whose tables are compared.
-const COLLECTIONS: u64 = 3_000;
-/// Inputs of a listing, small orders, and orders of longer words.
-const LISTINGS: u64 = 2_000;
-const SMALL_LISTINGS: u64 = 2_000;
-const LONG_LISTINGS: u64 = 60;
-
-/// Inputs of a search and of a count, small orders, and orders of longer words.
-const SEARCHES: u64 = 1_500;
-const SMALL_SEARCHES: u64 = 500;
-const LONG_SEARCHES: u64 = 40;
-
-/// Texts of each kind, and orders by their records.
-const TEXTS: u64 = 100_000;
-const RECORDS: u64 = 100_000;
-
 /// Compares a call on so many inputs.
 type Family = fn(u64) -> Tally;
+
+/// Every family with its number of inputs, and that of a short run, in which
+/// each question still refuses some. The two large orders are not in it.
+const FAMILIES: [(Family, u64, u64); 22] = [
+    (checks::append, 400_000, 1_000),
+    (checks::strip, 400_000, 1_000),
+    (checks::test, 400_000, 1_000),
+    (codes::weigh, 400_000, 1_000),
+    (codes::encode, 400_000, 1_000),
+    (records::read_order, 400_000, 1_000),
+    (events::collect, 3_000, 60),
+    (events::small_tables, 3_000, 30),
+    (events::large_tables, 1, 0),
+    (paths::list, 2_000, 60),
+    (paths::small_tables, 2_000, 25),
+    (paths::long_tables, 60, 1),
+    (paths::large_tables, 1, 0),
+    (paths::part, 400_000, 1_000),
+    (search::search, 1_500, 80),
+    (search::count, 1_500, 60),
+    (search::small_tables, 500, 12),
+    (search::long_tables, 40, 2),
+    (search::large_tables, 1, 0),
+    (texts::row_text, 100_000, 300),
+    (texts::refusal_text, 100_000, 300),
+    (orders::orders, 100_000, 600),
+];
 
 fn main() -> ExitCode {
     let arguments: Vec<String> = std::env::args().skip(1).collect();
@@ -68,57 +79,28 @@ fn main() -> ExitCode {
 
 /// How many checks passed and failed.
 fn run(arguments: &[String]) -> Result<(u64, u64), String> {
-    let (option, rest) = match arguments {
-        [] => return Ok(tallied(all())),
-        [option, rest @ ..] => (option.as_str(), rest),
-    };
-    match (option, rest) {
-        ("--records", [number]) => {
+    let words: Vec<&str> = arguments.iter().map(String::as_str).collect();
+    match words[..] {
+        [] => Ok(tallied(FAMILIES.map(|(call, inputs, _)| (call, inputs)))),
+        ["--short"] => Ok(tallied(FAMILIES.map(|(call, _, few)| (call, few)))),
+        ["--records", number] => {
             let records = number.parse().map_err(|_| format!("{number}: no number"))?;
-            Ok(tallied(vec![(orders::orders, records)]))
+            Ok(tallied([(orders::orders as Family, records)]))
         }
-        ("--rows", files) if !files.is_empty() => stored::rows(files),
+        ["--rows", _, ..] => stored::rows(&arguments[1..]),
         _ => Err(USAGE.to_string()),
     }
 }
 
-fn tallied(families: Vec<(Family, u64)>) -> (u64, u64) {
+fn tallied(families: impl IntoIterator<Item = (Family, u64)>) -> (u64, u64) {
     let (mut passed, mut failed) = (0, 0);
-    for (family, inputs) in families {
+    for (family, inputs) in families.into_iter().filter(|family| family.1 > 0) {
         let mut tally = family(inputs);
         tally.finish();
         passed += tally.passed;
         failed += tally.failed;
     }
     (passed, failed)
-}
-
-/// Every family with its number of inputs.
-fn all() -> Vec<(Family, u64)> {
-    vec![
-        (checks::append, INPUTS),
-        (checks::strip, INPUTS),
-        (checks::test, INPUTS),
-        (codes::weigh, INPUTS),
-        (codes::encode, INPUTS),
-        (records::read_order, INPUTS),
-        (events::collect, COLLECTIONS),
-        (events::small_tables, COLLECTIONS),
-        (events::large_tables, 1),
-        (paths::list, LISTINGS),
-        (paths::small_tables, SMALL_LISTINGS),
-        (paths::long_tables, LONG_LISTINGS),
-        (paths::large_tables, 1),
-        (paths::part, INPUTS),
-        (search::search, SEARCHES),
-        (search::count, SEARCHES),
-        (search::small_tables, SMALL_SEARCHES),
-        (search::long_tables, LONG_SEARCHES),
-        (search::large_tables, 1),
-        (texts::row_text, TEXTS),
-        (texts::refusal_text, TEXTS),
-        (orders::orders, RECORDS),
-    ]
 }
 
 /// The second tool's refusal as a number.

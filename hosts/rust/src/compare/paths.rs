@@ -87,7 +87,7 @@ pub fn small_tables(orders: u64) -> Tally {
         Tally::new("small path tables", &[10, 13, 14]).with_kind("orders with words of weight 0");
     for order in 0..orders {
         // Of the longest words there are a great many.
-        let most = if order % 100 == 0 {
+        let most = if order % 100 == 99 {
             listing::LONGEST
         } else {
             12

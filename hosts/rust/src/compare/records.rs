@@ -70,7 +70,7 @@ pub fn damaged(random: &mut Random, mut bytes: Vec<u8>) -> (Vec<u8>, usize) {
     match random.within(0, 23) {
         0..=5 => {}
         6 => {
-            bytes = (0..random.index(40)).map(|_| random.byte()).collect();
+            bytes = any_bytes(random);
             size = bytes.len();
         }
         7 => bytes[random.index(size)] = random.byte(),
@@ -108,6 +108,17 @@ pub fn damaged(random: &mut Random, mut bytes: Vec<u8>) -> (Vec<u8>, usize) {
         }
     }
     (bytes, size)
+}
+
+/// Any bytes, every other time with the length and the version that are right.
+fn any_bytes(random: &mut Random) -> Vec<u8> {
+    let mut bytes: Vec<u8> = (0..random.index(40)).map(|_| random.byte()).collect();
+    let size = bytes.len();
+    if size > 2 && random.coin() {
+        set_length(&mut bytes, size);
+        bytes[2] = 1;
+    }
+    bytes
 }
 
 fn right(random: &mut Random) -> Vec<u8> {

@@ -147,7 +147,7 @@ pub fn small_tables(orders: u64) -> Tally {
     let mut done = 0;
     while done < orders {
         // Of the longest words there are a great many.
-        let most = if done % 50 == 0 { 18 } else { 12 };
+        let most = if done % 50 == 49 { 18 } else { 12 };
         let (input, d) = paths::draw_small(&mut random, most);
         if input.bits < 2 {
             continue;

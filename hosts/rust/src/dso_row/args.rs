@@ -24,6 +24,8 @@ standard input. A refusal prints NO and its number.
   --check FILE   whether each row of FILE, printed before, is what is computed
                  now, and where not; with --of, rows of that polynomial
   --memory MiB   event and path table may grow to this size (1024)
+  --events E     with --paths P, tables of exactly so many entries, which do not
+                 grow: dso lends 512 and 2048
   --help         this text
 
 FILE may be - for standard input. The tables are doubled where they are too
@@ -62,8 +64,16 @@ pub struct Args {
     /// The polynomial whose counts are wanted, rather than the search.
     pub of: Option<u64>,
     pub json: bool,
-    /// MiB that event and path table may grow to.
-    pub memory: usize,
+    pub sizes: Sizes,
+}
+
+/// How large event and path table are.
+#[derive(Clone, Copy)]
+pub enum Sizes {
+    /// As large as they must, within so many MiB.
+    Within(usize),
+    /// So many entries.
+    Exactly { events: usize, paths: usize },
 }
 
 #[derive(Default)]
@@ -72,6 +82,8 @@ struct Options {
     json: bool,
     of: Option<u64>,
     memory: Option<usize>,
+    events: Option<usize>,
+    paths: Option<usize>,
     other: Option<Other>,
 }
 
@@ -112,7 +124,7 @@ pub fn read(arguments: impl Iterator<Item = String>) -> Result<Args, String> {
     Ok(Args {
         of: options.of,
         json: options.json,
-        memory: options.memory.unwrap_or(MEMORY),
+        sizes: options.sizes()?,
         task: options.task(&order)?,
     })
 }
@@ -132,6 +144,8 @@ impl Options {
             "--json" => self.json = true,
             "--of" => self.of = Some(polynomial(&value()?)?),
             "--memory" => self.memory = Some(memory(&value()?)?),
+            "--events" => self.events = Some(entries(option, &value()?)?),
+            "--paths" => self.paths = Some(entries(option, &value()?)?),
             "--checklist" => self.take_other(Other::Checklist)?,
             "--record" => self.take_other(Other::Record)?,
             "--record-hex" => self.take_other(Other::RecordHex)?,
@@ -166,6 +180,24 @@ impl Options {
             return Err(format!("--of: not together with {other}"));
         }
         Ok(())
+    }
+
+    fn sizes(&self) -> Result<Sizes, String> {
+        let memory = self.memory.unwrap_or(MEMORY);
+        let (events, paths) = match (self.events, self.paths) {
+            (None, None) => return Ok(Sizes::Within(memory)),
+            (Some(events), Some(paths)) => (events, paths),
+            (Some(_), None) => return Err("--events: not without --paths".to_string()),
+            (None, Some(_)) => return Err("--paths: not without --events".to_string()),
+        };
+        let bytes = dohvrin::Tables::bytes(events, paths);
+        if bytes.is_some_and(|bytes| bytes <= memory << 20) {
+            Ok(Sizes::Exactly { events, paths })
+        } else {
+            Err(format!(
+                "--events {events} --paths {paths}: not within --memory {memory}"
+            ))
+        }
     }
 
     fn task(self, order: &[String]) -> Result<Task, String> {
@@ -212,4 +244,10 @@ fn memory(value: &str) -> Result<usize, String> {
         .and_then(|number| usize::try_from(number).ok())
         .filter(|&number| number > 0 && number <= usize::MAX >> 20)
         .ok_or_else(|| format!("--memory {value}: not a number of MiB"))
+}
+
+fn entries(option: &str, value: &str) -> Result<usize, String> {
+    digits(value, 10)
+        .and_then(|number| usize::try_from(number).ok())
+        .ok_or_else(|| format!("{option} {value}: not a number of entries"))
 }

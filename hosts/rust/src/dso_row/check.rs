@@ -13,7 +13,7 @@ pub fn write(file: &str, args: &Args) -> Result<(), Stop> {
     if rows.is_empty() {
         return Err(wrong("no row in it".to_string()));
     }
-    let mut desk = Desk::new(args.of, args.memory);
+    let mut desk = Desk::new(args.of, args.sizes);
     let mut differ = 0;
     for (row, at) in rows.iter().zip(1..) {
         let difference = difference(row, &mut desk);

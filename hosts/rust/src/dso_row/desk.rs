@@ -1,5 +1,6 @@
 //! Rows from tables that grow as they must.
 
+use crate::args::Sizes;
 use crate::{numbers::Numbers, progress, tell};
 use dohvrin::{Order, Refusal, Row, Tables};
 
@@ -7,22 +8,24 @@ use dohvrin::{Order, Refusal, Row, Tables};
 pub struct Desk {
     tables: Tables,
     of: Option<u64>,
-    /// MiB that the tables may grow to.
-    memory: usize,
+    sizes: Sizes,
 }
 
 impl Desk {
     /// Rows of the best polynomials, or of the one given.
-    pub fn new(of: Option<u64>, memory: usize) -> Desk {
+    pub fn new(of: Option<u64>, sizes: Sizes) -> Desk {
         let tables = Tables::within(0);
-        Desk { tables, of, memory }
+        Desk { tables, of, sizes }
     }
 
     /// The row of an order, whatever orders came before it.
     pub fn row(&mut self, order: &Order) -> Result<Row, Refusal> {
         // Grown tables would be cleared each time, and one leaves no room for
         // the other.
-        self.tables = Tables::within(self.memory << 20);
+        self.tables = match self.sizes {
+            Sizes::Within(memory) => Tables::within(memory << 20),
+            Sizes::Exactly { events, paths } => Tables::with_entries(events, paths),
+        };
         loop {
             let (tables, of) = (&mut self.tables, self.of);
             let (events, paths) = (tables.event_entries(), tables.path_entries());
@@ -55,10 +58,11 @@ impl Desk {
     fn enlarge(&mut self, refusal: Refusal) -> Result<(), Refusal> {
         let (what, before) = self.entries(refusal);
         if !self.tables.grow(refusal) {
-            let memory = self.memory;
-            tell(&format!(
-                "more than {before} {what}, and no larger table within --memory {memory}"
-            ));
+            if let Sizes::Within(memory) = self.sizes {
+                tell(&format!(
+                    "more than {before} {what}, and no larger table within --memory {memory}"
+                ));
+            }
             return Err(refusal);
         }
         let (_, after) = self.entries(refusal);

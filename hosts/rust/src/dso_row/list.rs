@@ -12,7 +12,7 @@ pub fn write(file: &str, args: &Args) -> Result<(), Stop> {
     if orders.is_empty() {
         return Err(wrong("no order in it".to_string()));
     }
-    let mut desk = Desk::new(args.of, args.memory);
+    let mut desk = Desk::new(args.of, args.sizes);
     for numbers in &orders {
         put_row(&desk.lines(numbers), args.json)?;
     }

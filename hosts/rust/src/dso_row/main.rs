@@ -74,7 +74,7 @@ fn answer(args: &Args) -> Result<(), Stop> {
         Task::Help => put(args::HELP.as_bytes())?,
         Task::Row(source) => {
             let order = order(source)?;
-            let row = Desk::new(args.of, args.memory).row(&order)?;
+            let row = Desk::new(args.of, args.sizes).row(&order)?;
             put_row(&row.text(), args.json)?;
         }
         Task::Checklist(source) => sign(&order(source)?, args)?,
@@ -104,7 +104,7 @@ fn order(source: &Source) -> Result<Order, Stop> {
 
 /// The row of an order, or its tie, and the checklist.
 fn sign(order: &Order, args: &Args) -> Result<(), Stop> {
-    let mut desk = Desk::new(None, args.memory);
+    let mut desk = Desk::new(None, args.sizes);
     let answer = desk.row(order);
     match &answer {
         Ok(row) => put_row(&row.text(), false)?,

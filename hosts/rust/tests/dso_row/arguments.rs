@@ -14,6 +14,8 @@ fn help() {
         "--file",
         "--check",
         "--memory",
+        "--events",
+        "--paths",
     ] {
         assert!(help.out.contains(option), "{option}");
     }
@@ -57,6 +59,21 @@ fn the_message_names_the_argument() {
         (
             "--memory 99999999999999999",
             "--memory 99999999999999999: not a number of MiB",
+        ),
+        (
+            "--events few --paths 1 -",
+            "--events few: not a number of entries",
+        ),
+        ("--paths -1 -", "--paths -1: not a number of entries"),
+        ("--events 5 -", "--events: not without --paths"),
+        ("--paths 5 -", "--paths: not without --events"),
+        (
+            "--events 5 --paths 99999999999999999 -",
+            "--events 5 --paths 99999999999999999: not within --memory 1024",
+        ),
+        (
+            "--memory 1 --events 5 --paths 65536 -",
+            "--events 5 --paths 65536: not within --memory 1",
         ),
         ("--file a --check b", "--check: not together with --file"),
         (

@@ -173,6 +173,21 @@ fn tables_grow_to_the_limit_alone() {
 }
 
 #[test]
+fn tables_of_the_sizes_given_do_not_grow() {
+    let lent = |events, paths, order| {
+        let run = run(&format!("--events {events} --paths {paths} {order}"));
+        assert_eq!(run.status, 0);
+        run.out
+    };
+    let order = "2 1 4 2 6 1 3";
+    assert_eq!(lent(5, 13, order), EXAMPLE);
+    assert_eq!(lent(5, 12, order), "NO 14\n");
+    assert_eq!(lent(4, 13, order), "NO 13\n");
+    assert_eq!(lent(0, 0, order), "NO 13\n");
+    assert_eq!(lent(5, 12, &format!("--of 0x7 {order}")), "NO 14\n");
+}
+
+#[test]
 fn a_closed_output_is_no_crash() {
     let mut child = program()
         .args(["--checklist", "-"])

@@ -1,6 +1,6 @@
 -- One bit shifted in, cut to the word's bits.
 -- Assumes nothing.
-use mathlib.Core.Path.{_≡_, refl, sym, ap, _∙_, subst, subst⁻¹}
+use mathlib.Core.Path.{subst, subst⁻¹}
 use Prim.Native.Nat.{ℕ, _<_}
 use Rattle.poly.proofs.Sum.{bit-lt}
 use Rattle.code.proofs.Turn.{turned-by}

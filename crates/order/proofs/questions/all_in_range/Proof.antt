@@ -2,11 +2,10 @@
 -- Assumes nothing.
 use Rattle.order.proofs.Answers.{zero-out-of-range, large-out-of-range, in-range}
 use borrow.Author.Needs.{needs}
-use mathlib.Core.Path.{_≡_, refl, sym, ap, _∙_}
+use mathlib.Core.Path.{_≡_, refl, sym, _∙_}
 use Prim.Native.Nat.{_-_, _≤_, zero-le}
 use native.Mathlib.Omega.{arith}
-use lib.ListN.{length, drop, getD}
-use borrow.Author.Tests.{lt-ltb, le-ltb}
+use lib.ListN.{length, drop}
 use Rattle.lists.specs.Lists.{all}
 use Rattle.lists.proofs.Scan.{all-end, all-fails, all-goes-on}
 use Rattle.order.specs.Questions.{inRange}

@@ -1,6 +1,6 @@
 -- Both tests.
 -- Assumes nothing.
-use mathlib.Core.Path.{_≡_, refl, sym, ap, _∙_}
+use mathlib.Core.Path.{sym, _∙_}
 use Rattle.lists.proofs.Tests.{and-yes, and-no}
 use borrow.Author.Needs.{needs}
 use Rattle.order.proofs.questions.ends_reached.Statement.{statement}

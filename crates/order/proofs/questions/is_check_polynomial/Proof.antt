@@ -5,7 +5,7 @@ use lib.Dec.{eqb}
 use Rattle.lists.proofs.Tests.{and-yes, and-no}
 use Rattle.order.proofs.Answers.{no-such-degree}
 use native.Mathlib.Omega.{arith}
-use mathlib.Core.Path.{sym, ap, _∙_}
+use mathlib.Core.Path.{ap, _∙_}
 use borrow.Author.Tests.{eq-eqb, ne-eqb}
 use borrow.Author.Needs.{needs}
 use Rattle.order.proofs.questions.is_check_polynomial.Statement.{statement}

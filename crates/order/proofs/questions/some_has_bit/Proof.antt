@@ -2,12 +2,10 @@
 -- Assumes nothing.
 use Rattle.order.proofs.Answers.{has-bit, has-no-bit}
 use borrow.Author.Needs.{needs}
-use mathlib.Core.Path.{_≡_, refl, sym, ap, _∙_}
+use mathlib.Core.Path.{_≡_, refl, sym, _∙_}
 use Prim.Native.Nat.{_-_, _≤_, zero-le}
 use native.Mathlib.Omega.{arith}
-use lib.ListN.{length, drop, getD}
-use lib.Dec.{eqb}
-use borrow.Author.Tests.{eq-eqb, ne-eqb}
+use lib.ListN.{length, drop}
 use Rattle.lists.specs.Lists.{any}
 use Rattle.lists.proofs.Scan.{any-end, any-passes, any-goes-on}
 use Rattle.order.specs.Questions.{hasBit}

@@ -1,6 +1,5 @@
-//! The collection of error events as one would write it in Rust: the library's
-//! method, into a table of the same records. States are bytes, so that the
-//! compiler sees that they are within the tables.
+//! The collection of error events, into a table of the library's records. States
+//! are bytes, so that the compiler sees that they are within the tables.
 
 use dohvrin::Event;
 

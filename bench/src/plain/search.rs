@@ -1,16 +1,15 @@
-//! The search for the best check polynomial as one would write it in Rust: the
-//! library's method after the listing of `chains`, with words of 128 bits. A
-//! word passes the check where it has an even number of ones at the places of
-//! each of m rows; a candidate is left at the first weight where it counts more
-//! than the best so far.
+//! The search for the best check polynomial, after the listing. A word passes
+//! the check where it has an even number of ones at the places of each of m
+//! rows; a candidate is left at the first weight where it counts more than the
+//! best so far.
 
-use crate::chains;
+use super::paths::list;
 use dohvrin::Event;
 use std::cmp::Ordering;
 
 /// How many paths there are below d, and the best polynomial of degree m, whose
-/// counts are left in `undetected`; the other tables are as `chains::list`
-/// leaves them. Nothing where a table is too small, or several are best.
+/// counts are left in `undetected`; the other tables are as `list` leaves
+/// them. Nothing where a table is too small, or several are best.
 #[allow(clippy::too_many_arguments)]
 pub fn search(
     generators: &[u64],
@@ -23,7 +22,7 @@ pub fn search(
     plain: &mut [u64],
     undetected: &mut [u64],
 ) -> Option<(usize, u64)> {
-    let listed = chains::list(generators, v, bits, d, events, paths, plain)?;
+    let listed = list(generators, v, bits, d, events, paths, plain)?;
     // No candidate counts as many.
     undetected.fill(u64::MAX);
     let mut best = Vec::new();
@@ -83,13 +82,9 @@ fn improve(rows: &[u128], paths: &[u128], plain: &[u64], undetected: &mut [u64])
 
 /// How many of the words pass, up to one more than the limit.
 fn count_up_to(limit: u64, rows: &[u128], words: &[u128]) -> u64 {
-    let even = |word: u128| {
-        let ones = |row: &u128| (word & row).count_ones();
-        rows.iter().all(|row| ones(row) % 2 == 0)
-    };
     let mut found = 0;
     for &word in words {
-        if even(word) {
+        if passes(word, rows) {
             found += 1;
             if found > limit {
                 break;
@@ -97,4 +92,19 @@ fn count_up_to(limit: u64, rows: &[u128], words: &[u128]) -> u64 {
         }
     }
     found
+}
+
+/// Whether a word has an even number of ones at every row. Four rows are looked
+/// at together: that a word fails at one of four can nearly be foretold.
+fn passes(word: u128, rows: &[u128]) -> bool {
+    let odd = |row: &u128| oddness(word & row);
+    let mut fours = rows.chunks_exact(4);
+    fours.all(|four| four.iter().map(odd).sum::<u32>() == 0)
+        && fours.remainder().iter().all(|row| odd(row) == 0)
+}
+
+/// The ones of a word, modulo 2: the halves are counted as one.
+fn oddness(word: u128) -> u32 {
+    let (low, high) = dohvrin::halves(word);
+    (low ^ high).count_ones() % 2
 }

@@ -1,9 +1,8 @@
-//! The listing of paths as one would write it in Rust: the library's method,
-//! with tables of each state's events that are made once, words of 128 bits,
-//! and the standard library's sort. Lengths and weights are bytes, so that the
-//! compiler sees that they are within the tables.
+//! The listing of paths. The tables of each state's events are made once.
+//! Lengths and weights are bytes, so that the compiler sees that they are within
+//! the tables.
 
-use crate::plain;
+use super::events::collect;
 use dohvrin::Event;
 
 /// No chain weighs as much: past every threshold.
@@ -11,7 +10,7 @@ const NEVER: u8 = 255;
 
 /// How many paths there are below d of a right code, of memory v. The words are
 /// in the table by weight and number, zeros after them, and the counts by
-/// weight; the events are as `plain::collect` leaves them. Nothing where a
+/// weight; the events are as `collect` leaves them. Nothing where a
 /// table is too small.
 pub fn list(
     generators: &[u64],
@@ -22,7 +21,7 @@ pub fn list(
     paths: &mut [u128],
     counts: &mut [u64],
 ) -> Option<usize> {
-    let n = plain::collect(generators, v, bits, d, events)?;
+    let n = collect(generators, v, bits, d, events)?;
     let mut rest = &events[..n];
     let mut states = Vec::new();
     while let Some(first) = rest.first() {

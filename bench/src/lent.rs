@@ -1,0 +1,123 @@
+//! The tables of an order, exactly full, and each call that fills them: the
+//! library's, and plain Rust's.
+
+use crate::orders::Order;
+use crate::plain;
+use dohvrin::{Event, Listed, Searched, WORK};
+
+pub struct Lent {
+    order: Order,
+    events: Vec<Event>,
+    /// The library's paths, two numbers a word, and plain Rust's.
+    numbers: Vec<u64>,
+    words: Vec<u128>,
+    plain: Vec<u64>,
+    undetected: Vec<u64>,
+    work: Vec<u64>,
+}
+
+impl Lent {
+    pub fn new(order: Order) -> Lent {
+        let d = order.d as usize;
+        // Not zeros: those are no memory until the first call has touched it.
+        let full = Event {
+            state: u64::MAX,
+            ..Event::default()
+        };
+        Lent {
+            order,
+            events: vec![full; order.events],
+            numbers: vec![u64::MAX; 2 * order.paths],
+            words: vec![u128::MAX; order.paths],
+            plain: vec![0; d],
+            undetected: vec![0; d],
+            work: vec![0; WORK],
+        }
+    }
+
+    /// What the call before left; the paths are for `same_paths`.
+    pub fn left(&self) -> (Vec<Event>, Vec<u64>, Vec<u64>) {
+        let Lent { events, plain, .. } = self;
+        (events.clone(), plain.clone(), self.undetected.clone())
+    }
+
+    /// Whether the library's call and plain Rust's left the same paths.
+    pub fn same_paths(&self) -> bool {
+        dohvrin::words(&self.numbers).eq(self.words.iter().copied())
+    }
+}
+
+pub fn library_collect(lent: &mut Lent) -> Option<usize> {
+    let (o, events) = (&lent.order, &mut lent.events);
+    dohvrin::collect(&o.generators, o.v, o.bits, o.d, events, &mut lent.work).ok()
+}
+
+pub fn plain_collect(lent: &mut Lent) -> Option<usize> {
+    let o = &lent.order;
+    plain::events::collect(&o.generators, o.v, o.bits, o.d, &mut lent.events)
+}
+
+pub fn library_list(lent: &mut Lent) -> Option<usize> {
+    let o = &lent.order;
+    let listed = dohvrin::list(
+        &o.generators,
+        o.v,
+        o.bits,
+        o.d,
+        &mut lent.events,
+        &mut lent.numbers,
+        &mut lent.plain,
+        &mut lent.work,
+    );
+    listed.ok().map(|Listed { paths, .. }| paths)
+}
+
+pub fn plain_list(lent: &mut Lent) -> Option<usize> {
+    let o = &lent.order;
+    plain::paths::list(
+        &o.generators,
+        o.v,
+        o.bits,
+        o.d,
+        &mut lent.events,
+        &mut lent.words,
+        &mut lent.plain,
+    )
+}
+
+pub fn library_search(lent: &mut Lent) -> Option<(usize, u64)> {
+    let o = &lent.order;
+    let found = dohvrin::search(
+        &o.generators,
+        o.v,
+        o.bits,
+        o.m,
+        o.d,
+        &mut lent.events,
+        &mut lent.numbers,
+        &mut lent.plain,
+        &mut lent.undetected,
+        &mut lent.work,
+    );
+    match found {
+        Ok(Searched::Found {
+            paths, polynomial, ..
+        }) => Some((paths, polynomial)),
+        _ => None,
+    }
+}
+
+pub fn plain_search(lent: &mut Lent) -> Option<(usize, u64)> {
+    let o = &lent.order;
+    plain::search::search(
+        &o.generators,
+        o.v,
+        o.bits,
+        o.m,
+        o.d,
+        &mut lent.events,
+        &mut lent.words,
+        &mut lent.plain,
+        &mut lent.undetected,
+    )
+}

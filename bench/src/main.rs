@@ -1,0 +1,141 @@
+//! `bench`: the library and plain Rust of the same method side by side, as
+//! tables in Markdown. A benchmark and no test.
+//!
+//! The two take turns, so that both meet the same weather; a row has the median
+//! turn of either, and the median ratio of neighbouring turns with the middle
+//! half of them as its spread. Times are the processor's for this thread: what
+//! else runs there is not counted. In the first turn the answers and all tables
+//! are compared: a time is worth nothing where the two do not do the same.
+
+mod clock;
+mod lent;
+mod orders;
+mod plain;
+mod small;
+mod turns;
+mod words;
+
+use lent::Lent;
+use orders::{Order, BY_D, BY_N, MIDDLE, TABLE_1, TABLE_2};
+use std::fmt::Debug;
+use std::process::ExitCode;
+use turns::{time, Turns};
+
+/// A call of one side, and its answer.
+type Call<T> = fn(&mut Lent) -> T;
+
+fn main() -> ExitCode {
+    let arguments: Vec<String> = std::env::args().skip(1).collect();
+    match arguments.iter().map(String::as_str).collect::<Vec<_>>()[..] {
+        [] => {
+            searches(7);
+            listings(7);
+            collections(15, 101);
+            calls(101);
+            growth(7, &BY_N, &BY_D);
+            small::slowest(1000);
+        }
+        ["--quick"] => {
+            searches(1);
+            collections(1, 11);
+            calls(11);
+            growth(1, &BY_N, &BY_D[..3]);
+            small::slowest(50);
+        }
+        _ => {
+            eprintln!("usage: bench/run [--quick]");
+            return ExitCode::from(2);
+        }
+    }
+    ExitCode::SUCCESS
+}
+
+fn searches(turns: usize) {
+    head("The whole search", "paths");
+    search(turns, name_of, &[TABLE_1, TABLE_2]);
+}
+
+fn listings(turns: usize) {
+    head("Listing paths, its collection included", "paths");
+    for order in [TABLE_1, TABLE_2] {
+        let times = race(turns, order, lent::library_list, lent::plain_list);
+        row(&name_of(&order), order.paths, &times);
+    }
+}
+
+/// So few turns of the large one, so many of the others.
+fn collections(few: usize, many: usize) {
+    head("Collecting error events", "events");
+    for (turns, order) in [(many, TABLE_1), (many, MIDDLE), (few, TABLE_2)] {
+        let times = race(turns, order, lent::library_collect, lent::plain_collect);
+        row(&name_of(&order), order.events, &times);
+    }
+}
+
+fn calls(turns: usize) {
+    head("Calls on one word, 13, 17", "calls a turn");
+    for (name, times) in words::all(turns) {
+        row(name, words::CALLS, &times);
+    }
+}
+
+fn growth(turns: usize, by_n: &[Order], by_d: &[Order]) {
+    head("The whole search by N, 13, 17 · m=6 · d=14", "paths");
+    search(turns, |order| format!("N={}", order.bits), by_n);
+    head("The whole search by d, 13, 17 · N=70 · m=6", "paths");
+    search(turns, |order| format!("d={}", order.d), by_d);
+}
+
+fn search(turns: usize, name: fn(&Order) -> String, orders: &[Order]) {
+    for &order in orders {
+        let times = race(turns, order, lent::library_search, lent::plain_search);
+        row(&name(&order), order.paths, &times);
+    }
+}
+
+/// Both on one order, turn by turn.
+fn race<T: Debug + PartialEq>(
+    turns: usize,
+    order: Order,
+    library: Call<T>,
+    plain: Call<T>,
+) -> Turns {
+    let mut lent = Lent::new(order);
+    let mut times = Turns::default();
+    for turn in 0..turns {
+        let (ours, answer) = time(|| library(&mut lent));
+        let left = (turn == 0).then(|| lent.left());
+        let (theirs, expected) = time(|| plain(&mut lent));
+        times.push(ours, theirs);
+        if let Some(left) = left {
+            assert_eq!(answer, expected, "{}", name_of(&order));
+            let same = left == lent.left() && lent.same_paths();
+            assert!(same, "{}: the tables differ", name_of(&order));
+        }
+    }
+    times
+}
+
+fn name_of(order: &Order) -> String {
+    let [g1, g2] = order.generators;
+    let Order { bits, m, d, .. } = order;
+    format!("{g1:o}, {g2:o} · N={bits} · m={m} · d={d}")
+}
+
+fn head(title: &str, size: &str) {
+    println!("\n{title}:\n");
+    println!("| | {size} | library | plain Rust | ratio |");
+    println!("|---|---|---|---|---|");
+}
+
+fn row(name: &str, size: usize, times: &Turns) {
+    println!("| {name} | {} | {} |", grouped(size), times.cells());
+}
+
+/// A number with a comma before each three digits.
+fn grouped(number: usize) -> String {
+    match number {
+        0..=999 => number.to_string(),
+        _ => format!("{},{:03}", grouped(number / 1000), number % 1000),
+    }
+}

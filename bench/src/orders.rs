@@ -1,0 +1,63 @@
+//! The orders that are timed, and how many events and paths they have.
+
+#[derive(Clone, Copy)]
+pub struct Order {
+    pub generators: [u64; 2],
+    pub v: u64,
+    pub bits: u64,
+    pub m: u64,
+    pub d: u64,
+    pub events: usize,
+    pub paths: usize,
+}
+
+/// Document 000, Table I.
+pub const TABLE_1: Order = order_13_17(70, 18, 15_852, 1_940_785);
+
+/// Document 004, Table II, m = 12.
+pub const TABLE_2: Order = Order {
+    generators: [0o561, 0o753],
+    v: 8,
+    bits: 76,
+    m: 12,
+    d: 21,
+    events: 5_079_947,
+    paths: 882_816,
+};
+
+/// More states than 13, 17 and fewer events than 561, 753.
+pub const MIDDLE: Order = Order {
+    generators: [0o133, 0o171],
+    v: 6,
+    bits: 70,
+    m: 6,
+    d: 14,
+    events: 6_903,
+    paths: 3_430,
+};
+
+pub const BY_N: [Order; 4] = [
+    order_13_17(40, 14, 1_134, 23_780),
+    order_13_17(70, 14, 1_134, 48_965),
+    order_13_17(100, 14, 1_134, 80_450),
+    order_13_17(128, 14, 1_134, 115_520),
+];
+
+pub const BY_D: [Order; 4] = [
+    order_13_17(70, 12, 357, 7_000),
+    order_13_17(70, 14, 1_134, 48_965),
+    order_13_17(70, 16, 4_036, 324_240),
+    TABLE_1,
+];
+
+const fn order_13_17(bits: u64, d: u64, events: usize, paths: usize) -> Order {
+    Order {
+        generators: [0o13, 0o17],
+        v: 3,
+        bits,
+        m: 6,
+        d,
+        events,
+        paths,
+    }
+}

@@ -1,0 +1,67 @@
+//! The calls on one word: the same questions, then the same steps.
+
+use dso_ref::link::Code;
+use dso_ref::questions::{self, Refusal};
+
+/// The weight of a word: the ones in all cyclic products.
+pub fn weigh(code: Code, word: u128) -> Result<u32, Refusal> {
+    ask(code)?;
+    questions::below_power(word, code.length)?;
+    let weight = |&g| cyclic_product(word, g, code).count_ones();
+    Ok(code.generators.iter().map(weight).sum())
+}
+
+/// u times g modulo x^N + 1, the highest coefficient first.
+fn cyclic_product(u: u128, g: u64, code: Code) -> u128 {
+    let (n, ones) = (code.length, u128::MAX >> (128 - code.length));
+    (0..=code.memory).rev().fold(0, |r, j| {
+        let turned = (r << 1 | r >> (n - 1)) & ones;
+        match g >> j & 1 {
+            0 => turned,
+            _ => turned ^ u,
+        }
+    })
+}
+
+/// The codeword into the output, a step at a time, and zeros after it.
+pub fn encode(code: Code, word: u128, output: &mut [u8]) -> Result<(), Refusal> {
+    let Code {
+        memory: v,
+        length: n,
+        generators,
+    } = code;
+    ask(code)?;
+    questions::codeword_room(output.len(), generators.len(), n)?;
+    questions::below_power(word, n)?;
+    output.fill(0);
+    let bit = |t: usize| (word >> t & 1) as u64;
+    let mut state = (n - v..n).fold(0, |s, t| 2 * s + bit(t));
+    for (t, step) in (0..n).zip(output.chunks_exact_mut(generators.len())) {
+        let window = 2 * state + bit(t);
+        for (out, g) in step.iter_mut().zip(generators) {
+            *out = (g & window).count_ones() as u8 % 2;
+        }
+        state = window % (1 << v);
+    }
+    Ok(())
+}
+
+/// Whether the polynomial divides a word: the register takes a bit at a time.
+pub fn test(length: usize, m: usize, p: u64, word: u128) -> Result<bool, Refusal> {
+    questions::length(1, length)?;
+    questions::degree(m, length)?;
+    questions::polynomial(p, m)?;
+    questions::below_power(word, length)?;
+    let rest = (0..length).rev().fold(0, |r, t| {
+        let s = 2 * r + (word >> t & 1) as u64;
+        s ^ ((s >> m) * p)
+    });
+    Ok(rest == 0)
+}
+
+fn ask(code: Code) -> Result<(), Refusal> {
+    questions::generator_count(code.generators.len())?;
+    questions::memory(code.memory)?;
+    questions::length(code.memory, code.length)?;
+    questions::generators(code.memory, code.generators)
+}

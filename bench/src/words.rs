@@ -1,0 +1,103 @@
+//! Calls on one word. A turn makes `CALLS` calls over the same words.
+
+use crate::plain;
+use crate::turns::{time, Turns};
+use dso_ref::link::{self, Code};
+use std::fmt::Debug;
+use std::hint::black_box;
+
+pub const CALLS: usize = 8192;
+const WORDS: usize = 256;
+
+const GENERATORS: [u64; 2] = [0o13, 0o17];
+const MEMORY: u64 = 3;
+const POLYNOMIAL: u64 = 0x180F;
+const DEGREE: u64 = 12;
+
+/// Each kind of call with its times.
+pub fn all(turns: usize) -> [(&'static str, Turns); 5] {
+    let test = |word| dohvrin::test(128, DEGREE, black_box(POLYNOMIAL), word).ok();
+    let same = |word| plain::words::test(128, DEGREE as usize, black_box(POLYNOMIAL), word).ok();
+    let second = |word| link::divides(128, DEGREE as usize, black_box(POLYNOMIAL), word).ok();
+    [
+        ("weigh, 70 bits", weigh(turns, 70)),
+        ("weigh, 128 bits", weigh(turns, 128)),
+        ("encode, 128 bits", encode(turns)),
+        ("test, 128 bits, degree 12", race(turns, 128, test, same)),
+        (
+            "the same, beside the second tool's division by set bits",
+            race(turns, 128, test, second),
+        ),
+    ]
+}
+
+fn weigh(turns: usize, bits: u64) -> Turns {
+    race(
+        turns,
+        bits,
+        |word| dohvrin::weigh(black_box(&GENERATORS), MEMORY, bits, word).ok(),
+        |word| plain::words::weigh(code(bits), word).ok().map(u64::from),
+    )
+}
+
+fn encode(turns: usize) -> Turns {
+    let (mut ours, mut theirs) = ([0; 256], [0; 256]);
+    race(
+        turns,
+        128,
+        |word| {
+            let answer = dohvrin::encode(black_box(&GENERATORS), MEMORY, 128, word, &mut ours);
+            answer.is_ok().then_some(black_box(ours))
+        },
+        |word| {
+            let answer = plain::words::encode(code(128), word, &mut theirs);
+            answer.is_ok().then_some(black_box(theirs))
+        },
+    )
+}
+
+fn code(bits: u64) -> Code<'static> {
+    Code {
+        memory: MEMORY as usize,
+        length: bits as usize,
+        generators: black_box(&GENERATORS),
+    }
+}
+
+/// Both over the same words, turn by turn.
+fn race<T: Debug + PartialEq>(
+    turns: usize,
+    bits: u64,
+    mut library: impl FnMut(u128) -> T,
+    mut plain: impl FnMut(u128) -> T,
+) -> Turns {
+    let words = words(bits);
+    for &word in &words {
+        assert_eq!(library(word), plain(word), "{word:#x}");
+    }
+    let mut times = Turns::default();
+    for _ in 0..turns {
+        times.push(turn(&words, &mut library), turn(&words, &mut plain));
+    }
+    times
+}
+
+/// The nanoseconds of a call in one turn.
+fn turn<T>(words: &[u128], call: &mut impl FnMut(u128) -> T) -> f64 {
+    let (all, ()) = time(|| {
+        for &word in words.iter().cycle().take(CALLS) {
+            black_box(call(black_box(word)));
+        }
+    });
+    all / CALLS as f64
+}
+
+/// Words of `bits` bits, the same in every run.
+fn words(bits: u64) -> Vec<u128> {
+    let mut state = 1u128;
+    let next = |_| {
+        state = state.wrapping_mul(0xDA94_2042_E4DD_58B5).wrapping_add(1);
+        (state ^ state << 61) >> (128 - bits)
+    };
+    (0..WORDS).map(next).collect()
+}
