@@ -2,7 +2,7 @@
 -- or else what the chain begun with it finds (`found-more`). All it finds is what its events find, one after another (`found-is-rest`), and events
 -- that are not worth joining may be skipped (`rest-skips`).
 -- Assumes nothing.
-use Prim.Native.Nat.{ℕ, zero, suc, _+_, _-_, _*_, _/_, _%_, _^_, _≤_, _<_}
+use Prim.Native.Nat.{ℕ, zero, suc, _+_, _-_, _*_, _^_, _≤_, _<_}
 use native.Mathlib.Nat.{add-zero}
 use native.Mathlib.Omega.{arith}
 use mathlib.Core.Path.{_≡_, refl, sym, ap, _∙_, subst}
@@ -10,6 +10,7 @@ use mathlib.Core.Bool.{Bool, true, false, not, cond, _&&_}
 use mathlib.Core.Logic.{_⊎_, inl, inr, ⊎-elim}
 use mathlib.Core.List.{List, [], _∷_, _++_, flatMap, List·Memᴰ, Memᴰ·of-map}
 use lib.Dec.{T, leb, eqb, leb→le, eqb→eq, not-T, T-not, nleb→lt, lit<}
+use lib.Pow.{split}
 use lib.ListN.{length, getD}
 use Rattle.lists.specs.Lists.{upFrom}
 use Rattle.lists.proofs.Member.{upFrom-bounds}
@@ -23,13 +24,9 @@ use Rattle.paths.proofs.Pruned.{joined-drops}
 use Rattle.bounds.specs.Tables.{startAt, endAt, bitsAt, leastAt, fillAt, decided}
 use Rattle.chains.specs.Chaining.{wordOf, errorEvent, atHand, extended, found, foundBy, Joinable, Joins, Node}
 
--- ---- the two halves of a number
-halves-are : (c : ℕ) → c / 2 ^ 64 * 2 ^ 64 + c % 2 ^ 64 ≡ c
-halves-are c = omega arith
-
 pub word-extended : (N : ℕ) (node e : Event) → wordOf (extended N node e) ≡ wordOf node + wordOf e * 2 ^ (N - node .length)
 unfolding extended
-word-extended N node e = halves-are (wordOf node + wordOf e * 2 ^ (N - node .length))
+word-extended N node e = split (wordOf node + wordOf e * 2 ^ (N - node .length)) 64
 
 -- ---- what a decision says
 

@@ -1,13 +1,14 @@
 -- What the chaining finds is what the model of the recursion joins (`paths`' specs/Chains.antt), where the table holds an order's events and the work
 -- area tells where each state's begin: state by state (`found-is-stateWords`), and over all states (`foundFrom-is-chainWords`).
 -- Assumes nothing.
-use Prim.Native.Nat.{ℕ, zero, suc, _+_, _-_, _*_, _/_, _%_, _^_, _≤_, _<_}
+use Prim.Native.Nat.{ℕ, zero, suc, _+_, _-_, _/_, _^_, _≤_, _<_}
 use native.Mathlib.Nat.{lt-of-lt-of-le}
 use native.Mathlib.Numerals.{add-one}
 use native.Mathlib.Omega.{arith}
 use mathlib.Core.Path.{_≡_, refl, sym, ap, ap₂, _∙_, subst}
 use mathlib.Core.Logic.{inl, inr}
 use mathlib.Core.List.{List, _++_, map, flatMap, List·Memᴰ, Memᴰ·map, Memᴰ·of-map}
+use lib.Pow.{split}
 use lib.ListN.{length, getD}
 use Rattle.lists.specs.Lists.{upFrom}
 use Rattle.lists.proofs.Member.{upFrom-bounds, in-upFrom}
@@ -40,10 +41,7 @@ pub record Delimits (o : Order) (table : List Event) (work : List ℕ) : Type 0 
 -- an entry of the table is the event that it was made of
 errorEvent-entry : (e : ErrorEvent) → errorEvent (entry e) ≡ e
 unfolding errorEvent entry
-errorEvent-entry e = ap (λ (x : ℕ). record { state = e .state; length = e .length; weight = e .weight; input = x }) (halves (e .input))
-  where
-    halves : (c : ℕ) → c / 2 ^ 64 * 2 ^ 64 + c % 2 ^ 64 ≡ c
-    halves c = omega arith
+errorEvent-entry e = ap (λ (x : ℕ). record { state = e .state; length = e .length; weight = e .weight; input = x }) (split (e .input) 64)
 
 state-entry : (e : ErrorEvent) → entry e .state ≡ e .state
 unfolding entry

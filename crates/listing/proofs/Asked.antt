@@ -13,7 +13,8 @@ use Rattle.events.specs.Calls.{collectQuestions}
 use Rattle.events.proofs.Asked.{or-first, why-small}
 use Rattle.listing.specs.Calls.{listQuestions}
 
-or-zero : (x y : ℕ) → orElse x y ≡ 0 → (x ≡ 0) × (y ≡ 0)
+-- neither part refuses
+pub or-zero : (x y : ℕ) → orElse x y ≡ 0 → (x ≡ 0) × (y ≡ 0)
 or-zero zero y e = (refl, e)
 or-zero (suc x) y e = absurd (omega arith)
 

@@ -18,11 +18,12 @@ use Rattle.poly.specs.Poly.{bit}
 use Rattle.order.specs.Order.{Order, orderQuestions}
 use Rattle.order.specs.Questions.{Question, firstNo, from-to, checkPolynomial, shapeQuestions, generatorQuestions, orderNumbers}
 use Rattle.order.proofs.Answers.{range}
-use Rattle.order.proofs.FirstNo.{orElse, AllYes, firstNo-none, firstNo-yes, firstNo-++, yes-of-firstNo}
+use Rattle.order.proofs.FirstNo.{AllYes, firstNo-none, firstNo-yes, firstNo-++, yes-of-firstNo}
 use Rattle.events.specs.Events.{events, eventsOfState, eventsOfLength, listed, eventTable}
 use Rattle.events.specs.Calls.{orderOf, collectQuestions}
 use Rattle.bounds.proofs.Placed.{lt-or-ge}
 use Rattle.paths.specs.Paths.{paths, wordsOfWeight, weights, plainCounts, pathTable, pathRoom}
+use Rattle.listing.proofs.Asked.{or-zero}
 use Rattle.listing.specs.declared.Listed.{Listed}
 use Rattle.listing.specs.declared.Listed.the-variants as L
 use Rattle.listing.specs.Calls as Listing
@@ -74,11 +75,7 @@ module _ (o : Order) (p plain undetected size : ℕ) (none : firstNo (countQuest
   parts-say-yes : (firstNo (searchQuestions o plain undetected size) ≡ 0) × (firstNo (checkPolynomial (o .m) p ∷ []) ≡ 0)
   unfolding countQuestions searchQuestions orderQuestions orderNumbers generatorQuestions
   parts-say-yes =
-      both-zero _ _ (sym (firstNo-++ (searchQuestions o plain undetected size) (checkPolynomial (o .m) p ∷ []) (tt, (tt, (tt, (tt, (tt, (tt, (tt, (tt, (tt, (tt, tt))))))))))) ∙ none)
-    where
-      both-zero : (x y : ℕ) → orElse x y ≡ 0 → (x ≡ 0) × (y ≡ 0)
-      both-zero zero y e = (refl, e)
-      both-zero (suc x) y e = absurd (omega arith)
+      or-zero _ _ (sym (firstNo-++ (searchQuestions o plain undetected size) (checkPolynomial (o .m) p ∷ []) (tt, (tt, (tt, (tt, (tt, (tt, (tt, (tt, (tt, (tt, tt))))))))))) ∙ none)
 
   pub accepted-count : Accepted o plain undetected size
   accepted-count = accepted-search o plain undetected size (parts-say-yes .0)
