@@ -49,7 +49,7 @@ impl Lent {
 
 pub fn library_collect(lent: &mut Lent) -> Option<usize> {
     let (o, events) = (&lent.order, &mut lent.events);
-    dohvrin::collect(&o.generators, o.v, o.bits, o.d, events, &mut lent.work).ok()
+    dohvrin::collect(o.code(), o.d, events, &mut lent.work).ok()
 }
 
 pub fn plain_collect(lent: &mut Lent) -> Option<usize> {
@@ -59,16 +59,9 @@ pub fn plain_collect(lent: &mut Lent) -> Option<usize> {
 
 pub fn library_list(lent: &mut Lent) -> Option<usize> {
     let o = &lent.order;
-    let listed = dohvrin::list(
-        &o.generators,
-        o.v,
-        o.bits,
-        o.d,
-        &mut lent.events,
-        &mut lent.numbers,
-        &mut lent.plain,
-        &mut lent.work,
-    );
+    let (events, paths) = (&mut lent.events, &mut lent.numbers);
+    let (plain, work) = (&mut lent.plain, &mut lent.work);
+    let listed = dohvrin::list(o.code(), o.d, events, paths, plain, work);
     listed.ok().map(|Listed { paths, .. }| paths)
 }
 
@@ -87,22 +80,15 @@ pub fn plain_list(lent: &mut Lent) -> Option<usize> {
 
 pub fn library_search(lent: &mut Lent) -> Option<(usize, u64)> {
     let o = &lent.order;
-    let found = dohvrin::search(
-        &o.generators,
-        o.v,
-        o.bits,
-        o.m,
-        o.d,
-        &mut lent.events,
-        &mut lent.numbers,
-        &mut lent.plain,
-        &mut lent.undetected,
-        &mut lent.work,
-    );
-    match found {
-        Ok(Searched::Found {
-            paths, polynomial, ..
-        }) => Some((paths, polynomial)),
+    let all = dohvrin::Lent {
+        events: &mut lent.events,
+        paths: &mut lent.numbers,
+        plain: &mut lent.plain,
+        undetected: &mut lent.undetected,
+        work: &mut lent.work,
+    };
+    match dohvrin::search(o.code(), o.m, o.d, all) {
+        Ok(Searched::Found(found)) => Some((found.paths, found.polynomial)),
         _ => None,
     }
 }

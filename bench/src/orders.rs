@@ -1,5 +1,7 @@
 //! The orders that are timed, and how many events and paths they have.
 
+use dohvrin::Code;
+
 #[derive(Clone, Copy)]
 pub struct Order {
     pub generators: [u64; 2],
@@ -9,6 +11,16 @@ pub struct Order {
     pub d: u64,
     pub events: usize,
     pub paths: usize,
+}
+
+impl Order {
+    pub fn code(&self) -> Code<'_> {
+        Code {
+            generators: &self.generators,
+            v: self.v,
+            bits: self.bits,
+        }
+    }
 }
 
 /// Document 000, Table I.

@@ -35,7 +35,7 @@ fn weigh(turns: usize, bits: u64) -> Turns {
     race(
         turns,
         bits,
-        |word| dohvrin::weigh(black_box(&GENERATORS), MEMORY, bits, word).ok(),
+        |word| dohvrin::weigh(given(bits), word).ok(),
         |word| plain::words::weigh(code(bits), word).ok().map(u64::from),
     )
 }
@@ -46,7 +46,7 @@ fn encode(turns: usize) -> Turns {
         turns,
         128,
         |word| {
-            let answer = dohvrin::encode(black_box(&GENERATORS), MEMORY, 128, word, &mut ours);
+            let answer = dohvrin::encode(given(128), word, &mut ours);
             answer.is_ok().then_some(black_box(ours))
         },
         |word| {
@@ -54,6 +54,15 @@ fn encode(turns: usize) -> Turns {
             answer.is_ok().then_some(black_box(theirs))
         },
     )
+}
+
+/// The code as the library takes it, and as the second tool does.
+fn given(bits: u64) -> dohvrin::Code<'static> {
+    dohvrin::Code {
+        generators: black_box(&GENERATORS),
+        v: MEMORY,
+        bits,
+    }
 }
 
 fn code(bits: u64) -> Code<'static> {

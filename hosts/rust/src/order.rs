@@ -1,7 +1,7 @@
 //! An order that the library accepts.
 
-use crate::Refusal;
-use crate::{raw, search};
+use crate::refusal::accepted;
+use crate::{calls, search, Code, Lent, Refusal};
 
 /// An order. There is none that questions 1 to 9 would refuse.
 ///
@@ -26,18 +26,19 @@ impl Order {
     /// no. The library is asked: with nothing lent, the search refuses a wrong
     /// order by its question, and a right one by question 10.
     pub fn new(generators: &[u64], v: u64, bits: u64, m: u64, d: u64) -> Result<Order, Refusal> {
-        match search(
+        let code = Code {
             generators,
             v,
             bits,
-            m,
-            d,
-            &mut [],
-            &mut [],
-            &mut [],
-            &mut [],
-            &mut [],
-        ) {
+        };
+        let nothing = Lent {
+            events: &mut [],
+            paths: &mut [],
+            plain: &mut [],
+            undetected: &mut [],
+            work: &mut [],
+        };
+        match search(code, m, d, nothing) {
             Err(refusal) if refusal != Refusal::Room => Err(refusal),
             _ => Ok(Order {
                 generators: generators.to_vec(),
@@ -51,9 +52,8 @@ impl Order {
 
     /// The order of a record, or the first question that says no.
     pub fn from_record(bytes: &[u8]) -> Result<Order, Refusal> {
-        // SAFETY: pointer and count are a slice's, which nothing writes meanwhile.
-        let answer = unsafe { raw::dohvrin_read_order(bytes.as_ptr(), bytes.len()) };
-        crate::accepted(answer.refusal)?;
+        let answer = calls::read_order(bytes);
+        accepted(answer.refusal)?;
         let four = [answer.g1, answer.g2, answer.g3, answer.g4];
         Ok(Order {
             generators: (0..answer.n).zip(four).map(|(_, g)| g).collect(),
@@ -82,6 +82,15 @@ impl Order {
                 .flat_map(|&g| (g as u16).to_be_bytes()),
         );
         bytes
+    }
+
+    /// Its code and the length of words.
+    pub fn code(&self) -> Code<'_> {
+        Code {
+            generators: &self.generators,
+            v: self.v,
+            bits: self.bits,
+        }
     }
 
     /// The n generators.

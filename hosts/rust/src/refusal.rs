@@ -108,6 +108,11 @@ impl Refusal {
     }
 }
 
+/// An answer's refusal as an error, where there is one.
+pub(crate) fn accepted(refusal: u64) -> Result<(), Refusal> {
+    Refusal::of(refusal, 0).map_or(Ok(()), Err)
+}
+
 impl fmt::Display for Refusal {
     fn fmt(&self, f: &mut fmt::Formatter) -> fmt::Result {
         write!(

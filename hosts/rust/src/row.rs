@@ -1,6 +1,6 @@
 //! A row, and the text of a row or a refusal.
 
-use crate::{refusal_text, row_text, Order, Refusal, TEXT};
+use crate::{refusal_text, row_text, Found, Order, Refusal, TEXT};
 
 /// What an order's row says. Only the tables make one.
 ///
@@ -14,9 +14,7 @@ use crate::{refusal_text, row_text, Order, Refusal, TEXT};
 #[derive(Clone, Debug, PartialEq, Eq)]
 pub struct Row {
     pub(crate) order: Order,
-    pub(crate) events: usize,
-    pub(crate) paths: usize,
-    pub(crate) polynomial: u64,
+    pub(crate) found: Found,
     pub(crate) plain: Vec<u64>,
     pub(crate) undetected: Vec<u64>,
 }
@@ -29,17 +27,17 @@ impl Row {
 
     /// How many events were listed.
     pub fn events(&self) -> usize {
-        self.events
+        self.found.events
     }
 
     /// How many paths were listed.
     pub fn paths(&self) -> usize {
-        self.paths
+        self.found.paths
     }
 
     /// The best polynomial, or the one that was given.
     pub fn polynomial(&self) -> u64 {
-        self.polynomial
+        self.found.polynomial
     }
 
     /// How many paths have each weight below d.
@@ -54,22 +52,10 @@ impl Row {
 
     /// The lines that `dso` prints.
     pub fn text(&self) -> String {
-        let order = &self.order;
-        written(|buffer| {
-            row_text(
-                order.generators(),
-                order.v(),
-                order.bits(),
-                order.m(),
-                order.d(),
-                self.events as u64,
-                self.paths as u64,
-                self.polynomial,
-                &self.plain,
-                &self.undetected,
-                buffer,
-            )
-        })
+        let (order, found) = (&self.order, self.found);
+        let (plain, undetected) = (&self.plain, &self.undetected);
+        let (code, m, d) = (order.code(), order.m(), order.d());
+        written(|buffer| row_text(code, m, d, found, plain, undetected, buffer))
     }
 }
 

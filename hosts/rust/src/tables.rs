@@ -1,6 +1,7 @@
 //! The tables that a search needs, owned, and larger where they are too small.
 
-use crate::{count, part, search, words, Event, Order, Refusal, Row, Searched, WORK};
+use crate::{count, part, search, words};
+use crate::{Event, Found, Lent, Order, Refusal, Row, Searched, WORK};
 use std::mem::size_of;
 
 /// Weights below the greatest threshold.
@@ -89,55 +90,42 @@ impl Tables {
     /// The row of the best polynomial of an order. After a tie, `undetected`
     /// has the shared counts.
     pub fn search(&mut self, order: &Order) -> Result<Row, Refusal> {
-        let answer = search(
-            order.generators(),
-            order.v(),
-            order.bits(),
-            order.m(),
-            order.d(),
-            &mut self.events,
-            &mut self.paths,
-            &mut self.plain,
-            &mut self.undetected,
-            &mut self.work,
-        );
+        let answer = search(order.code(), order.m(), order.d(), self.lent());
         self.listed = answer.map_or(0, |_| order.d() as usize);
         match answer? {
-            Searched::Found {
-                events,
-                paths,
-                polynomial,
-            } => Ok(self.row(order, events, paths, polynomial)),
+            Searched::Found(found) => Ok(self.row(order, found)),
             Searched::Tied(left) => Err(Refusal::Tie { left }),
         }
     }
 
     /// The row of a polynomial, without a search.
     pub fn count(&mut self, order: &Order, polynomial: u64) -> Result<Row, Refusal> {
-        let answer = count(
-            order.generators(),
-            order.v(),
-            order.bits(),
-            order.m(),
-            order.d(),
-            polynomial,
-            &mut self.events,
-            &mut self.paths,
-            &mut self.plain,
-            &mut self.undetected,
-            &mut self.work,
-        );
-        self.listed = answer.map_or(0, |_| order.d() as usize);
+        let (code, m, d) = (order.code(), order.m(), order.d());
+        let answer = count(code, m, d, polynomial, self.lent());
+        self.listed = answer.map_or(0, |_| d as usize);
         let listed = answer?;
-        Ok(self.row(order, listed.events, listed.paths, polynomial))
+        let found = Found {
+            events: listed.events,
+            paths: listed.paths,
+            polynomial,
+        };
+        Ok(self.row(order, found))
     }
 
-    fn row(&self, order: &Order, events: usize, paths: usize, polynomial: u64) -> Row {
+    fn lent(&mut self) -> Lent<'_> {
+        Lent {
+            events: &mut self.events,
+            paths: &mut self.paths,
+            plain: &mut self.plain,
+            undetected: &mut self.undetected,
+            work: &mut self.work,
+        }
+    }
+
+    fn row(&self, order: &Order, found: Found) -> Row {
         Row {
             order: order.clone(),
-            events,
-            paths,
-            polynomial,
+            found,
             plain: self.plain().to_vec(),
             undetected: self.undetected().to_vec(),
         }

@@ -3,7 +3,7 @@
 use crate::random::Random;
 use crate::tally::Tally;
 use crate::{number, size, word_answer};
-use dohvrin::raw::{self, Answer};
+use dohvrin::calls::{self, Answer};
 use dso_ref::link;
 use dso_ref::poly;
 
@@ -32,9 +32,7 @@ pub fn append(inputs: u64) -> Tally {
                 ..Answer::default()
             }
         });
-        let (low, high) = dohvrin::halves(i.word);
-        // SAFETY: numbers alone.
-        let answer = unsafe { raw::dohvrin_append(i.bits, i.m, i.polynomial, low, high) };
+        let answer = calls::append(i.bits, i.m, i.polynomial, i.word);
         let safe = dohvrin::append(i.bits, i.m, i.polynomial, i.word).map_err(|no| no.number());
         let same = answer == expected && safe == plain;
         tally.count(expected.refusal, same, || {
@@ -64,9 +62,7 @@ pub fn strip(inputs: u64) -> Tally {
                 ..Answer::default()
             },
         });
-        let (low, high) = dohvrin::halves(i.word);
-        // SAFETY: numbers alone.
-        let answer = unsafe { raw::dohvrin_strip(i.bits, i.m, i.polynomial, low, high) };
+        let answer = calls::strip(i.bits, i.m, i.polynomial, i.word);
         let safe = dohvrin::strip(i.bits, i.m, i.polynomial, i.word).map_err(|no| no.number());
         let plain = plain.map(|stripped| match stripped {
             link::Stripped::Message(message) => dohvrin::Stripped::Message(message),
@@ -93,9 +89,7 @@ pub fn test(inputs: u64) -> Tally {
             value: u64::from(divides),
             ..Answer::default()
         });
-        let (low, high) = dohvrin::halves(i.word);
-        // SAFETY: numbers alone.
-        let answer = unsafe { raw::dohvrin_test(i.bits, i.m, i.polynomial, low, high) };
+        let answer = calls::test(i.bits, i.m, i.polynomial, i.word);
         let safe = dohvrin::test(i.bits, i.m, i.polynomial, i.word).map_err(|no| no.number());
         let same = answer == expected && safe == plain;
         if expected.value != 0 {

@@ -3,7 +3,7 @@
 use crate::random::Random;
 use crate::tally::Tally;
 use crate::{number, size, word_answer};
-use dohvrin::raw::{self, Answer};
+use dohvrin::calls::{self, Answer};
 use dso_ref::link::{self, Code};
 
 /// The bytes of an output before a call, and those around it.
@@ -23,15 +23,34 @@ pub struct Input {
 }
 
 impl Input {
-    pub fn given(&self) -> &[u64] {
-        &self.generators[..self.count]
+    /// A right code of these generators, and no word.
+    pub fn of(given: &[u64], v: u64, bits: u64) -> Input {
+        let mut generators = [0; 8];
+        generators[..given.len()].copy_from_slice(given);
+        Input {
+            generators,
+            count: given.len(),
+            v,
+            bits,
+            word: 0,
+        }
     }
 
+    /// The code as the library takes it.
+    pub fn given(&self) -> dohvrin::Code<'_> {
+        dohvrin::Code {
+            generators: &self.generators[..self.count],
+            v: self.v,
+            bits: self.bits,
+        }
+    }
+
+    /// The code as the second tool takes it.
     pub fn code(&self) -> Code<'_> {
         Code {
             memory: size(self.v),
             length: size(self.bits),
-            generators: self.given(),
+            generators: &self.generators[..self.count],
         }
     }
 }
@@ -48,11 +67,8 @@ pub fn weigh(inputs: u64) -> Tally {
             value,
             ..Answer::default()
         });
-        let (low, high) = dohvrin::halves(i.word);
-        let start = i.generators.as_ptr();
-        // SAFETY: `count` is at most the array's size.
-        let answer = unsafe { raw::dohvrin_weigh(start, i.count, i.v, i.bits, low, high) };
-        let safe = dohvrin::weigh(i.given(), i.v, i.bits, i.word).map_err(|no| no.number());
+        let answer = calls::weigh(i.given(), i.word);
+        let safe = dohvrin::weigh(i.given(), i.word).map_err(|no| no.number());
         let same = answer == expected && safe == plain;
         tally.count(expected.refusal, same, || {
             format!("{i:?}: library {answer:?} {safe:?}, second tool {expected:?}")
@@ -71,21 +87,26 @@ pub fn encode(inputs: u64) -> Tally {
         let refusal = plain.as_ref().err().copied().unwrap_or(0);
         let expected = output_after(plain.ok(), room);
         let before = 1 + random.index(GUARDS);
-        let (raw_refusal, raw_output) = encode_raw(&i, before, room);
-        let (safe_refusal, safe_output) = encode_safe(&i, before, room);
-        let expected = guarded(before, &expected);
-        let same = raw_refusal == refusal
-            && safe_refusal == refusal
-            && raw_output == expected
-            && safe_output == expected;
-        tally.count(refusal, same, || {
-            format!(
-                "{i:?} room {room}: library {raw_refusal} {raw_output:?}, \
-                 safe {safe_refusal} {safe_output:?}, second tool {refusal} {expected:?}"
-            )
+        let raw = |output: &mut [u8]| calls::encode(i.given(), i.word, output);
+        let safe = |output: &mut [u8]| {
+            let answer = dohvrin::encode(i.given(), i.word, output);
+            answer.err().map_or(0, |no| no.number())
+        };
+        let (raw, safe) = (encoded(before, room, raw), encoded(before, room, safe));
+        let expected = (refusal, guarded(before, &expected));
+        tally.count(refusal, raw == expected && safe == expected, || {
+            format!("{i:?} room {room}: library {raw:?}, safe {safe:?}, second tool {expected:?}")
         });
     }
     tally
+}
+
+/// What a call answers, and what it leaves of an output of this size among
+/// guard bytes.
+fn encoded(before: usize, room: usize, call: impl Fn(&mut [u8]) -> u64) -> (u64, Vec<u8>) {
+    let mut bytes = guarded(before, &vec![FILL; room]);
+    let refusal = call(&mut bytes[before..before + room]);
+    (refusal, bytes)
 }
 
 /// What a call must leave: the codeword and zeros, or the fill.
@@ -105,26 +126,6 @@ fn guarded(before: usize, output: &[u8]) -> Vec<u8> {
     bytes.extend_from_slice(output);
     bytes.resize(before + output.len() + GUARDS, GUARD);
     bytes
-}
-
-fn encode_raw(i: &Input, before: usize, room: usize) -> (u64, Vec<u8>) {
-    let mut bytes = guarded(before, &vec![FILL; room]);
-    let (low, high) = dohvrin::halves(i.word);
-    let start = i.generators.as_ptr();
-    // SAFETY: `before + room` is below the buffer's size, `count` at most the
-    // array's, and the buffer is none of the array.
-    let refusal = unsafe {
-        let output = bytes.as_mut_ptr().add(before);
-        raw::dohvrin_encode(start, i.count, i.v, i.bits, low, high, output, room)
-    };
-    (refusal, bytes)
-}
-
-fn encode_safe(i: &Input, before: usize, room: usize) -> (u64, Vec<u8>) {
-    let mut bytes = guarded(before, &vec![FILL; room]);
-    let output = &mut bytes[before..before + room];
-    let answer = dohvrin::encode(i.given(), i.v, i.bits, i.word, output);
-    (answer.err().map_or(0, |no| no.number()), bytes)
 }
 
 /// None, one short, exact, longer, or any.

@@ -1,19 +1,15 @@
-//! The collection of error events, with its lent table and work area.
-//!
-//! Whole tables are compared, and what stands around them. Before each call
-//! every lent entry and number, and some on either side, have values of their
-//! own, so that one that was left, moved or changed is seen.
+//! The collection of error events, with its lent table and work area. Whole
+//! tables are compared, and what stands around them.
 
 use crate::codes::{self, Input};
+use crate::guards::{entry_of, Guarded};
 use crate::random::Random;
 use crate::tally::Tally;
 use crate::{number, size};
-use dohvrin::raw::{self, Answer};
+use dohvrin::calls::{self, Answer};
 use dohvrin::{Event, WORK};
 use dso_ref::events;
 
-/// The entries on either side of a table, and the numbers around a work area.
-const GUARDS: usize = 9;
 /// Entries of a table whose events the second tool lists for any order.
 const ENTRIES: usize = 3000;
 /// Steps that the second tool takes without a cut, at most: in a small order,
@@ -82,16 +78,8 @@ pub fn large_tables(_: u64) -> Tally {
 /// The second tool's list must have the stored number of events, each of them
 /// walked once more, once and in order.
 fn large(tally: &mut Tally, generators: &[u64], v: u64, bits: u64, d: u64, events: usize) {
-    let mut given = [0; 8];
-    given[..generators.len()].copy_from_slice(generators);
     let call = Call {
-        input: Input {
-            generators: given,
-            count: generators.len(),
-            v,
-            bits,
-            word: 0,
-        },
+        input: Input::of(generators, v, bits),
         d,
         entries: 0,
         work: WORK,
@@ -140,102 +128,37 @@ fn compare(tally: &mut Tally, call: &Call, expected: Expected) {
 
 /// A table and a work area among guards.
 struct Lent {
-    table: Vec<Event>,
-    work: Vec<u64>,
+    table: Guarded<Event>,
+    work: Guarded<u64>,
 }
 
 impl Lent {
     fn new(call: &Call) -> Lent {
         Lent {
-            table: (0..call.entries + 2 * GUARDS).map(any_event).collect(),
-            work: (0..call.work + 2 * GUARDS).map(any_number).collect(),
+            table: Guarded::new(call.entries),
+            work: Guarded::new(call.work),
         }
     }
 
     fn raw(mut self, call: &Call, expected: Expected) -> (Answer, bool) {
-        let i = &call.input;
-        let (start, count) = (i.generators.as_ptr(), i.count);
-        // SAFETY: there are guards behind both, so that pointers and sizes are
-        // within them, `count` is at most the array's size, and the three are
-        // apart from each other.
-        let answer = unsafe {
-            let table = self.table.as_mut_ptr().add(GUARDS);
-            let work = self.work.as_mut_ptr().add(GUARDS);
-            raw::dohvrin_collect(
-                start,
-                count,
-                i.v,
-                i.bits,
-                call.d,
-                table,
-                call.entries,
-                work,
-                call.work,
-            )
-        };
-        (answer, self.is_left(call, expected))
+        let (table, work) = (self.table.lent(), self.work.lent());
+        let answer = calls::collect(call.input.given(), call.d, table, work);
+        (answer, self.is_left(expected))
     }
 
     fn safe(mut self, call: &Call, expected: Expected) -> (Result<usize, u64>, bool) {
-        let i = &call.input;
-        let table = &mut self.table[GUARDS..GUARDS + call.entries];
-        let work = &mut self.work[GUARDS..GUARDS + call.work];
-        let answer = dohvrin::collect(i.given(), i.v, i.bits, call.d, table, work);
-        (
-            answer.map_err(|no| no.number()),
-            self.is_left(call, expected),
-        )
+        let (table, work) = (self.table.lent(), self.work.lent());
+        let answer = dohvrin::collect(call.input.given(), call.d, table, work);
+        (answer.map_err(|no| no.number()), self.is_left(expected))
     }
 
     /// Whether the call left what it should: the events and zeros, zeros, or
     /// nothing changed; and in any case the guards.
-    fn is_left(&self, call: &Call, expected: Expected) -> bool {
-        let listed = expected.unwrap_or(&[]);
+    fn is_left(&self, expected: Expected) -> bool {
         let changed = matches!(expected, Ok(_) | Err(13));
-        let table = |at: usize| match at.checked_sub(GUARDS) {
-            Some(entry) if changed && entry < call.entries => {
-                listed.get(entry).map_or(Event::default(), entry_of)
-            }
-            _ => any_event(at),
-        };
-        let work = |at: usize| match at.checked_sub(GUARDS) {
-            Some(entry) if changed && entry < call.work => 0,
-            _ => any_number(at),
-        };
-        (0..)
-            .zip(&self.table)
-            .all(|(at, entry)| *entry == table(at))
-            && (0..)
-                .zip(&self.work)
-                .all(|(at, number)| *number == work(at))
-    }
-}
-
-/// A number, not 0, that no other place has.
-pub fn any_number(at: usize) -> u64 {
-    (at as u64 + 1).wrapping_mul(0x9E37_79B9_7F4A_7C15)
-}
-
-pub fn any_event(at: usize) -> Event {
-    let field = |k| any_number(5 * at + k);
-    Event {
-        state: field(0),
-        length: field(1),
-        weight: field(2),
-        low: field(3),
-        high: field(4),
-    }
-}
-
-/// The second tool's event as the table has it.
-pub fn entry_of(event: &dso_ref::Event) -> Event {
-    let (low, high) = dohvrin::halves(event.input);
-    Event {
-        state: event.state as u64,
-        length: event.length as u64,
-        weight: u64::from(event.weight),
-        low,
-        high,
+        let listed = expected.unwrap_or(&[]);
+        let entry = |at: usize| listed.get(at).map(entry_of);
+        self.table.is_left(changed, entry) && self.work.is_left(changed, |_| None)
     }
 }
 

@@ -9,16 +9,20 @@
 mod checks;
 mod codes;
 mod events;
+mod guards;
+mod listed;
 mod orders;
+mod part;
 mod paths;
 mod random;
 mod records;
 mod search;
+mod searched;
 mod stored;
 mod tally;
 mod texts;
 
-use dohvrin::raw::Answer;
+use dohvrin::calls::Answer;
 use dso_ref::Refusal;
 use std::process::ExitCode;
 use tally::Tally;
@@ -48,7 +52,7 @@ const FAMILIES: [(Family, u64, u64); 22] = [
     (paths::small_tables, 2_000, 25),
     (paths::long_tables, 60, 1),
     (paths::large_tables, 1, 0),
-    (paths::part, 400_000, 1_000),
+    (part::part, 400_000, 1_000),
     (search::search, 1_500, 80),
     (search::count, 1_500, 60),
     (search::small_tables, 500, 12),

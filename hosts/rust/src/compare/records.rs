@@ -3,7 +3,7 @@
 use crate::number;
 use crate::random::Random;
 use crate::tally::Tally;
-use dohvrin::raw::{self, OrderAnswer};
+use dohvrin::calls::{self, OrderAnswer};
 use dso_ref::order::record_bytes;
 use dso_ref::Order;
 
@@ -15,8 +15,7 @@ pub fn read_order(inputs: u64) -> Tally {
         let (bytes, size) = damaged(&mut random, bytes);
         let plain = Order::from_record(&bytes[..size]).map_err(number);
         let expected = answer_of(&plain);
-        // SAFETY: `size` is at most the bytes' number.
-        let answer = unsafe { raw::dohvrin_read_order(bytes.as_ptr(), size) };
+        let answer = calls::read_order(&bytes[..size]);
         let safe = dohvrin::Order::from_record(&bytes[..size]).map_err(|no| no.number());
         let same = answer == expected && safe == plain.map(order_of);
         tally.count(expected.refusal, same, || {

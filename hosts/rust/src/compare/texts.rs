@@ -3,8 +3,8 @@
 use crate::random::Random;
 use crate::tally::Tally;
 use crate::{number, size};
-use dohvrin::raw::{self, Answer};
-use dohvrin::TEXT;
+use dohvrin::calls::{self, Answer};
+use dohvrin::{Code, Found, TEXT};
 use dso_ref::print::Printed;
 use dso_ref::{questions, Refusal};
 
@@ -26,6 +26,25 @@ struct Input {
 }
 
 impl Input {
+    /// The code as the library takes it.
+    fn code(&self) -> Code<'_> {
+        let [v, bits, ..] = self.order;
+        Code {
+            generators: &self.generators[..self.count],
+            v,
+            bits,
+        }
+    }
+
+    fn found(&self) -> Found {
+        let [events, paths, polynomial] = self.found;
+        Found {
+            events: size(events),
+            paths: size(paths),
+            polynomial,
+        }
+    }
+
     /// The text, after questions 3, 7 and 10.
     fn text(&self, room: usize) -> Result<String, u64> {
         let [_, _, _, d] = self.order.map(size);
@@ -56,38 +75,12 @@ pub fn row_text(inputs: u64) -> Tally {
         let i = draw(&mut random);
         let room = draw_room(&mut random);
         let expected = i.text(room);
-        let [v, bits, m, d] = i.order;
-        let [events, paths, polynomial] = i.found;
-        let raw = |text: *mut u8| {
-            // SAFETY: `count` is at most the array's size, the counts are two
-            // vectors, and the text lies among guards of its own.
-            unsafe {
-                raw::dohvrin_row_text(
-                    i.generators.as_ptr(),
-                    i.count,
-                    v,
-                    bits,
-                    m,
-                    d,
-                    events,
-                    paths,
-                    polynomial,
-                    i.plain.as_ptr(),
-                    i.plain.len(),
-                    i.undetected.as_ptr(),
-                    i.undetected.len(),
-                    text,
-                    room,
-                )
-            }
-        };
-        let safe = |text: &mut [u8]| {
-            let gs = &i.generators[..i.count];
-            let (plain, undetected) = (&i.plain, &i.undetected);
-            dohvrin::row_text(
-                gs, v, bits, m, d, events, paths, polynomial, plain, undetected, text,
-            )
-        };
+        let [_, _, m, d] = i.order;
+        let (plain, undetected) = (&i.plain, &i.undetected);
+        let raw =
+            |text: &mut [u8]| calls::row_text(i.code(), m, d, i.found(), plain, undetected, text);
+        let safe =
+            |text: &mut [u8]| dohvrin::row_text(i.code(), m, d, i.found(), plain, undetected, text);
         compare(&mut tally, room, expected, raw, safe, || format!("{i:?}"));
     }
     tally
@@ -111,8 +104,7 @@ pub fn refusal_text(inputs: u64) -> Tally {
         if no == 15 && expected.is_ok() {
             tally.count_kind();
         }
-        // SAFETY: the text lies among guards.
-        let raw = |text: *mut u8| unsafe { raw::dohvrin_refusal_text(no, left, text, room) };
+        let raw = |text: &mut [u8]| calls::refusal_text(no, left, text);
         let safe = |text: &mut [u8]| dohvrin::refusal_text(no, left, text);
         compare(&mut tally, room, expected, raw, safe, || {
             format!("{no} {left}")
@@ -136,7 +128,7 @@ fn compare(
     tally: &mut Tally,
     room: usize,
     expected: Result<String, u64>,
-    raw: impl Fn(*mut u8) -> Answer,
+    raw: impl Fn(&mut [u8]) -> Answer,
     safe: impl Fn(&mut [u8]) -> Result<usize, dohvrin::Refusal>,
     tell: impl FnOnce() -> String,
 ) {
@@ -156,7 +148,7 @@ fn compare(
         left[before..before + length].copy_from_slice(text.as_bytes());
     }
     let mut again = bytes.clone();
-    let got = raw(bytes[before..before + room].as_mut_ptr());
+    let got = raw(&mut bytes[before..before + room]);
     let safe = safe(&mut again[before..before + room]).map_err(|no| no.number());
     let same = got == answer
         && bytes == left

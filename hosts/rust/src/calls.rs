@@ -1,0 +1,372 @@
+//! Every call of the archive, as include/dohvrin.h declares it, behind a safe
+//! function that takes slices and hands back the whole answer. How a call is
+//! called is written in this file alone, and all unsafe code is here.
+//!
+//! SAFETY, of every call: it takes any numbers. Pointers and counts are those
+//! of slices; what is written is borrowed alone, so that it overlaps nothing
+//! else and no one else has it meanwhile.
+
+use crate::{halves, Code, Found, Lent};
+
+/// `struct dohvrin_answer`.
+#[repr(C)]
+#[derive(Clone, Copy, Debug, Default, PartialEq, Eq)]
+pub struct Answer {
+    pub refusal: u64,
+    pub value: u64,
+    pub low: u64,
+    pub high: u64,
+}
+
+/// `struct dohvrin_order`.
+#[repr(C)]
+#[derive(Clone, Copy, Debug, Default, PartialEq, Eq)]
+pub struct OrderAnswer {
+    pub refusal: u64,
+    pub n: u64,
+    pub v: u64,
+    pub bits: u64,
+    pub m: u64,
+    pub d: u64,
+    pub g1: u64,
+    pub g2: u64,
+    pub g3: u64,
+    pub g4: u64,
+}
+
+/// `struct dohvrin_event`.
+#[repr(C)]
+#[derive(Clone, Copy, Debug, Default, PartialEq, Eq)]
+pub struct Event {
+    pub state: u64,
+    pub length: u64,
+    pub weight: u64,
+    pub low: u64,
+    pub high: u64,
+}
+
+/// `struct dohvrin_listing`.
+#[repr(C)]
+#[derive(Clone, Copy, Debug, Default, PartialEq, Eq)]
+pub struct Listing {
+    pub refusal: u64,
+    pub events: u64,
+    pub paths: u64,
+}
+
+/// `struct dohvrin_row`.
+#[repr(C)]
+#[derive(Clone, Copy, Debug, Default, PartialEq, Eq)]
+pub struct Row {
+    pub refusal: u64,
+    pub events: u64,
+    pub paths: u64,
+    pub polynomial: u64,
+    pub left: u64,
+}
+
+/// `struct dohvrin_part`.
+#[repr(C)]
+#[derive(Clone, Copy, Debug, Default, PartialEq, Eq)]
+pub struct Part {
+    pub refusal: u64,
+    pub start: u64,
+    pub numbers: u64,
+}
+
+const _: () = assert!(std::mem::size_of::<Answer>() == 32);
+const _: () = assert!(std::mem::size_of::<OrderAnswer>() == 80);
+const _: () = assert!(std::mem::size_of::<Event>() == 40);
+const _: () = assert!(std::mem::size_of::<Listing>() == 24);
+const _: () = assert!(std::mem::size_of::<Row>() == 40);
+const _: () = assert!(std::mem::size_of::<Part>() == 24);
+
+pub fn append(bits: u64, m: u64, polynomial: u64, message: u128) -> Answer {
+    let (low, high) = halves(message);
+    unsafe { dohvrin_append(bits, m, polynomial, low, high) }
+}
+
+pub fn strip(bits: u64, m: u64, polynomial: u64, word: u128) -> Answer {
+    let (low, high) = halves(word);
+    unsafe { dohvrin_strip(bits, m, polynomial, low, high) }
+}
+
+pub fn test(bits: u64, m: u64, polynomial: u64, word: u128) -> Answer {
+    let (low, high) = halves(word);
+    unsafe { dohvrin_test(bits, m, polynomial, low, high) }
+}
+
+pub fn weigh(code: Code, word: u128) -> Answer {
+    let (gs, (low, high)) = (code.generators, halves(word));
+    unsafe { dohvrin_weigh(gs.as_ptr(), gs.len(), code.v, code.bits, low, high) }
+}
+
+pub fn encode(code: Code, word: u128, output: &mut [u8]) -> u64 {
+    let (gs, (low, high)) = (code.generators, halves(word));
+    let (out, size) = (output.as_mut_ptr(), output.len());
+    unsafe {
+        dohvrin_encode(
+            gs.as_ptr(),
+            gs.len(),
+            code.v,
+            code.bits,
+            low,
+            high,
+            out,
+            size,
+        )
+    }
+}
+
+pub fn collect(code: Code, d: u64, table: &mut [Event], work: &mut [u64]) -> Answer {
+    let (gs, v, bits) = (code.generators, code.v, code.bits);
+    let (events, entries) = (table.as_mut_ptr(), table.len());
+    let (area, size) = (work.as_mut_ptr(), work.len());
+    unsafe {
+        dohvrin_collect(
+            gs.as_ptr(),
+            gs.len(),
+            v,
+            bits,
+            d,
+            events,
+            entries,
+            area,
+            size,
+        )
+    }
+}
+
+pub fn list(
+    code: Code,
+    d: u64,
+    events: &mut [Event],
+    paths: &mut [u64],
+    counts: &mut [u64],
+    work: &mut [u64],
+) -> Listing {
+    let (gs, v, bits) = (code.generators, code.v, code.bits);
+    unsafe {
+        dohvrin_list(
+            gs.as_ptr(),
+            gs.len(),
+            v,
+            bits,
+            d,
+            events.as_mut_ptr(),
+            events.len(),
+            paths.as_mut_ptr(),
+            paths.len(),
+            counts.as_mut_ptr(),
+            counts.len(),
+            work.as_mut_ptr(),
+            work.len(),
+        )
+    }
+}
+
+pub fn part(paths: &[u64], counts: &[u64], weight: u64) -> Part {
+    let (table, numbers) = (paths.as_ptr(), paths.len());
+    unsafe { dohvrin_part(table, numbers, counts.as_ptr(), counts.len(), weight) }
+}
+
+pub fn search(code: Code, m: u64, d: u64, lent: Lent) -> Row {
+    let (gs, v, bits) = (code.generators, code.v, code.bits);
+    unsafe {
+        dohvrin_search(
+            gs.as_ptr(),
+            gs.len(),
+            v,
+            bits,
+            m,
+            d,
+            lent.events.as_mut_ptr(),
+            lent.events.len(),
+            lent.paths.as_mut_ptr(),
+            lent.paths.len(),
+            lent.plain.as_mut_ptr(),
+            lent.plain.len(),
+            lent.undetected.as_mut_ptr(),
+            lent.undetected.len(),
+            lent.work.as_mut_ptr(),
+            lent.work.len(),
+        )
+    }
+}
+
+pub fn count(code: Code, m: u64, d: u64, polynomial: u64, lent: Lent) -> Listing {
+    let (gs, v, bits) = (code.generators, code.v, code.bits);
+    unsafe {
+        dohvrin_count(
+            gs.as_ptr(),
+            gs.len(),
+            v,
+            bits,
+            m,
+            d,
+            polynomial,
+            lent.events.as_mut_ptr(),
+            lent.events.len(),
+            lent.paths.as_mut_ptr(),
+            lent.paths.len(),
+            lent.plain.as_mut_ptr(),
+            lent.plain.len(),
+            lent.undetected.as_mut_ptr(),
+            lent.undetected.len(),
+            lent.work.as_mut_ptr(),
+            lent.work.len(),
+        )
+    }
+}
+
+pub fn row_text(
+    code: Code,
+    m: u64,
+    d: u64,
+    found: Found,
+    plain: &[u64],
+    undetected: &[u64],
+    text: &mut [u8],
+) -> Answer {
+    let (gs, v, bits) = (code.generators, code.v, code.bits);
+    unsafe {
+        dohvrin_row_text(
+            gs.as_ptr(),
+            gs.len(),
+            v,
+            bits,
+            m,
+            d,
+            found.events as u64,
+            found.paths as u64,
+            found.polynomial,
+            plain.as_ptr(),
+            plain.len(),
+            undetected.as_ptr(),
+            undetected.len(),
+            text.as_mut_ptr(),
+            text.len(),
+        )
+    }
+}
+
+pub fn refusal_text(number: u64, left: u64, text: &mut [u8]) -> Answer {
+    unsafe { dohvrin_refusal_text(number, left, text.as_mut_ptr(), text.len()) }
+}
+
+pub fn read_order(bytes: &[u8]) -> OrderAnswer {
+    unsafe { dohvrin_read_order(bytes.as_ptr(), bytes.len()) }
+}
+
+extern "C" {
+    fn dohvrin_append(bits: u64, m: u64, polynomial: u64, low: u64, high: u64) -> Answer;
+    fn dohvrin_strip(bits: u64, m: u64, polynomial: u64, low: u64, high: u64) -> Answer;
+    fn dohvrin_test(bits: u64, m: u64, polynomial: u64, low: u64, high: u64) -> Answer;
+    fn dohvrin_weigh(
+        generators: *const u64,
+        count: usize,
+        v: u64,
+        bits: u64,
+        low: u64,
+        high: u64,
+    ) -> Answer;
+    fn dohvrin_encode(
+        generators: *const u64,
+        count: usize,
+        v: u64,
+        bits: u64,
+        low: u64,
+        high: u64,
+        output: *mut u8,
+        size: usize,
+    ) -> u64;
+    fn dohvrin_collect(
+        generators: *const u64,
+        count: usize,
+        v: u64,
+        bits: u64,
+        d: u64,
+        table: *mut Event,
+        entries: usize,
+        work: *mut u64,
+        size: usize,
+    ) -> Answer;
+    fn dohvrin_list(
+        generators: *const u64,
+        count: usize,
+        v: u64,
+        bits: u64,
+        d: u64,
+        events: *mut Event,
+        event_entries: usize,
+        paths: *mut u64,
+        path_numbers: usize,
+        counts: *mut u64,
+        count_entries: usize,
+        work: *mut u64,
+        work_numbers: usize,
+    ) -> Listing;
+    fn dohvrin_part(
+        paths: *const u64,
+        path_numbers: usize,
+        counts: *const u64,
+        count_entries: usize,
+        weight: u64,
+    ) -> Part;
+    fn dohvrin_search(
+        generators: *const u64,
+        count: usize,
+        v: u64,
+        bits: u64,
+        m: u64,
+        d: u64,
+        events: *mut Event,
+        event_entries: usize,
+        paths: *mut u64,
+        path_numbers: usize,
+        plain: *mut u64,
+        plain_entries: usize,
+        undetected: *mut u64,
+        undetected_entries: usize,
+        work: *mut u64,
+        work_numbers: usize,
+    ) -> Row;
+    fn dohvrin_count(
+        generators: *const u64,
+        count: usize,
+        v: u64,
+        bits: u64,
+        m: u64,
+        d: u64,
+        polynomial: u64,
+        events: *mut Event,
+        event_entries: usize,
+        paths: *mut u64,
+        path_numbers: usize,
+        plain: *mut u64,
+        plain_entries: usize,
+        undetected: *mut u64,
+        undetected_entries: usize,
+        work: *mut u64,
+        work_numbers: usize,
+    ) -> Listing;
+    fn dohvrin_row_text(
+        generators: *const u64,
+        count: usize,
+        v: u64,
+        bits: u64,
+        m: u64,
+        d: u64,
+        events: u64,
+        paths: u64,
+        polynomial: u64,
+        plain: *const u64,
+        plain_entries: usize,
+        undetected: *const u64,
+        undetected_entries: usize,
+        text: *mut u8,
+        size: usize,
+    ) -> Answer;
+    fn dohvrin_refusal_text(number: u64, left: u64, text: *mut u8, size: usize) -> Answer;
+    fn dohvrin_read_order(bytes: *const u8, size: usize) -> OrderAnswer;
+}

@@ -1,0 +1,217 @@
+//! What is to be listed, and the sizes of the tables that are lent for it.
+
+use crate::codes::{self, Input};
+use crate::guards::entry_of;
+use crate::random::Random;
+use crate::size;
+use dohvrin::{Event, WORK};
+use dso_ref::{events, listing};
+
+/// Steps that the second tool takes without a cut, at most, in a small order.
+const STEPS: usize = 1 << 15;
+
+#[derive(Clone, Copy, Debug)]
+pub struct Sizes {
+    pub events: usize,
+    /// Numbers, two a path.
+    pub paths: usize,
+    pub counts: usize,
+    pub work: usize,
+}
+
+impl Sizes {
+    pub fn with_events(self, events: usize) -> Sizes {
+        Sizes { events, ..self }
+    }
+
+    pub fn with_paths(self, paths: usize) -> Sizes {
+        Sizes { paths, ..self }
+    }
+
+    fn with_counts(self, counts: usize) -> Sizes {
+        Sizes { counts, ..self }
+    }
+}
+
+/// What is to be listed of a right code.
+pub struct Tables {
+    pub input: Input,
+    pub d: u64,
+    pub events: Vec<Event>,
+    pub words: Vec<u128>,
+    pub counts: Vec<u64>,
+}
+
+impl Tables {
+    /// Of a small order: its events without a cut, where they are few enough
+    /// for that, and its paths among all words one by one.
+    pub fn small(input: Input, d: u64) -> Tables {
+        let code = input.code();
+        let events = events::walked(code, size(d), STEPS)
+            .or_else(|| events::collect(code, size(d), usize::MAX, WORK).ok())
+            .expect("a right code");
+        let paths = listing::list(code, size(d), usize::MAX).expect("a right code");
+        Tables::new(input, d, events.iter().map(entry_of).collect(), paths)
+    }
+
+    pub fn new(input: Input, d: u64, events: Vec<Event>, paths: Vec<(u32, u128)>) -> Tables {
+        let counts = listing::counts_of(size(d), &paths);
+        Tables {
+            input,
+            d,
+            events,
+            words: paths.into_iter().map(|(_, word)| word).collect(),
+            counts: counts.into_iter().map(|count| count as u64).collect(),
+        }
+    }
+
+    /// The sizes of tables that are exactly full.
+    pub fn sizes(&self) -> Sizes {
+        Sizes {
+            events: self.events.len(),
+            paths: 2 * self.words.len(),
+            counts: self.counts.len(),
+            work: WORK,
+        }
+    }
+
+    /// The counts must be those of the second tool's table, which knows no list.
+    pub fn count_again(&self) {
+        let capacity = self.words.len();
+        let again = listing::plain(self.input.code(), size(self.d), capacity).unwrap_or_default();
+        let same = self.counts.iter().map(|&count| u128::from(count)).eq(again);
+        assert!(same, "{:?}, d {}: not so many paths", self.input, self.d);
+    }
+
+    /// What is left in tables of these sizes: question 10, then 13, then 14.
+    pub fn within(&self, lent: Sizes) -> Result<&Tables, u64> {
+        let full = self.sizes();
+        if lent.counts < full.counts || lent.work < full.work {
+            Err(10)
+        } else if lent.events < full.events {
+            Err(13)
+        } else if lent.paths < full.paths {
+            Err(14)
+        } else {
+            Ok(self)
+        }
+    }
+}
+
+/// Tables exactly full, odd, larger and far larger; then each too small, empty
+/// or one short, and some of them at the same time.
+pub fn draw_sizes(random: &mut Random, tables: &Tables) -> Vec<Sizes> {
+    let full = tables.sizes();
+    let Sizes {
+        events,
+        paths,
+        counts,
+        ..
+    } = full;
+    let larger = Sizes {
+        events: events + 1 + random.index(40),
+        paths: paths + 2 + random.index(40),
+        counts: counts + 1 + random.index(40),
+        work: WORK + 1 + random.index(100),
+    };
+    let far_larger = Sizes {
+        events: 3 * events + 500,
+        paths: 3 * paths + 1001,
+        counts: counts + 200,
+        work: 2 * WORK,
+    };
+    let mut all = vec![full, full.with_paths(paths + 1), larger, far_larger];
+    for short in [paths.saturating_sub(1), paths.saturating_sub(2), 0] {
+        let short = full.with_paths(short);
+        all.extend([short, short.with_events(events - 1)]);
+    }
+    all.extend([full.with_events(events - 1), full.with_events(0)]);
+    let empty = full.with_events(0).with_paths(0);
+    all.push(full.with_counts(counts - 1));
+    all.push(empty.with_counts(random.index(counts)));
+    all.push(Sizes {
+        work: WORK - 1,
+        ..full
+    });
+    all
+}
+
+/// Code, threshold, counts and work area right or damaged; the sizes of the
+/// two other tables come later.
+pub fn draw(random: &mut Random) -> (Input, u64, Sizes) {
+    let d = match random.within(0, 15) {
+        0 => random.pick(&[0, 65, 66, 128]),
+        1 => random.huge(5),
+        2..=4 => random.within(1, 64),
+        _ => random.within(1, 14),
+    };
+    let work = match random.within(0, 15) {
+        0 => random.index(WORK),
+        1 => WORK - 1,
+        2..=12 => WORK,
+        _ => WORK + random.index(1000),
+    };
+    let enough = size(d.min(64));
+    let counts = match random.within(0, 15) {
+        0 => enough.saturating_sub(1),
+        1 => random.index(64),
+        2..=9 => enough,
+        _ => enough + random.index(40),
+    };
+    let lent = Sizes {
+        events: 0,
+        paths: 0,
+        counts,
+        work,
+    };
+    (codes::draw(random), d, lent)
+}
+
+/// None, one short, exact, or larger where that may be.
+pub fn draw_size(random: &mut Random, exact: usize, larger: bool) -> usize {
+    match random.within(0, 15) {
+        0 => 0,
+        1 | 2 => exact.saturating_sub(1),
+        9..=15 if larger => exact + random.index(100),
+        _ => exact,
+    }
+}
+
+/// A right code of at most `most` steps, and a threshold. Every fourth has no
+/// more steps than memory; every third has generators with a common factor,
+/// most often x+1, of which the word of all ones weighs nothing.
+pub fn draw_small(random: &mut Random, most: u64) -> (Input, u64) {
+    let mut input = codes::right(random);
+    input.bits = match random.within(0, 3) {
+        0 => input.v,
+        _ => random.within(input.v, most),
+    };
+    if random.within(0, 2) == 0 {
+        share_factor(random, &mut input);
+    }
+    let most = random.pick(&[12, 64]);
+    (input, random.within(1, most))
+}
+
+/// Generators that are products with one polynomial of degree 1 or more.
+fn share_factor(random: &mut Random, input: &mut Input) {
+    let degree = random.within(1, input.v);
+    let factor = match random.within(0, 2) {
+        0 => 1 << degree | random.next() & ((1 << degree) - 1) | 1,
+        _ => 3,
+    };
+    let left = input.v - u64::from(63 - u64::leading_zeros(factor));
+    let given = input.count;
+    let mut others: Vec<u64> = (0..given)
+        .map(|_| random.within(1, (2 << left) - 1))
+        .collect();
+    others[random.index(given)] |= 1 << left;
+    others[random.index(given)] |= 1;
+    let times = |other: u64| {
+        let shifted = (0..=left).filter(|j| other >> j & 1 == 1);
+        shifted.fold(0, |sum, j| sum ^ factor << j)
+    };
+    for (g, other) in input.generators.iter_mut().zip(others) {
+        *g = times(other);
+    }
+}

@@ -1,0 +1,280 @@
+//! One call of a search or a count, with its five lent tables: what it must
+//! answer and leave. Whole tables are compared, and what stands around them.
+
+use crate::codes::Input;
+use crate::guards::Guarded;
+use crate::listed::{self, Tables};
+use crate::paths;
+use crate::random::Random;
+use crate::tally::Tally;
+use crate::{number, size};
+use dohvrin::calls::{self, Row};
+use dohvrin::{Found, Listed, Searched};
+use dso_ref::search::{best, Best, Counter};
+use dso_ref::{questions, Order, Refusal};
+
+/// One call: the order, the polynomial where counts are asked for, and the
+/// sizes of what is lent.
+#[derive(Clone, Copy, Debug)]
+pub struct Call {
+    pub input: Input,
+    pub m: u64,
+    pub d: u64,
+    pub of: Option<u64>,
+    pub lent: Sizes,
+}
+
+/// The tables of a listing, and the undetected counts.
+#[derive(Clone, Copy, Debug)]
+pub struct Sizes {
+    pub listing: listed::Sizes,
+    pub undetected: usize,
+}
+
+impl Call {
+    /// The order, or the number of the first question before 13 that says no.
+    pub fn order(&self) -> Result<Order, u64> {
+        let (m, d) = (size(self.m), size(self.d));
+        let code = self.input.code();
+        let asked = |order: Order| {
+            questions::count_entries(self.lent.listing.counts, d)?;
+            questions::count_entries(self.lent.undetected, d)?;
+            questions::work_size(self.lent.listing.work)?;
+            if let Some(p) = self.of {
+                questions::polynomial(p, m)?;
+            }
+            Ok::<_, Refusal>(order)
+        };
+        Order::new(code.memory, code.length, m, d, code.generators)
+            .and_then(asked)
+            .map_err(number)
+    }
+
+    /// The best counts, or those of the call's polynomial.
+    pub fn best(&self, counter: &mut impl Counter) -> Best {
+        let plain = counter.plain(size(self.d));
+        match self.of {
+            None => best(counter, size(self.m), &plain),
+            Some(p) => Best {
+                counts: counter.undetected(p, plain.len()),
+                who: vec![p],
+            },
+        }
+    }
+}
+
+/// What is to be left: the tables with the counts and who has them, or what
+/// the refusal leaves.
+pub type Expected<'a> = Result<(&'a Tables, &'a Best), u64>;
+
+/// What is left in the call's tables: question 10, then 13, then 14.
+pub fn within<'a>(call: &Call, tables: &'a Tables, best: &'a Best) -> Expected<'a> {
+    if call.lent.undetected < best.counts.len() {
+        return Err(10);
+    }
+    let tables = tables.within(call.lent.listing)?;
+    Ok((tables, best))
+}
+
+/// The call as C sees it, then the safe function.
+pub fn compare(tally: &mut Tally, call: &Call, expected: Expected) {
+    let answer = answer_of(expected);
+    let plain = match answer.refusal {
+        0 => Ok(Searched::Found(Found {
+            events: size(answer.events),
+            paths: size(answer.paths),
+            polynomial: answer.polynomial,
+        })),
+        15 => Ok(Searched::Tied(answer.left)),
+        number => Err(number),
+    };
+    let (raw, raw_left) = Lent::new(call.lent).raw(call, expected);
+    let (safe, safe_left) = Lent::new(call.lent).safe(call, expected);
+    let same = raw == answer && safe == plain && raw_left && safe_left;
+    tally.count(answer.refusal, same, || {
+        format!(
+            "{call:?}: library {raw:?} {safe:?}, second tool {answer:?}, \
+             memory as it should be: {raw_left} {safe_left}"
+        )
+    });
+}
+
+/// The answer of a search; that of a count says as much, but for the polynomial.
+fn answer_of(expected: Expected) -> Row {
+    match expected {
+        Err(refusal) => Row {
+            refusal,
+            ..Row::default()
+        },
+        Ok((tables, best)) => match best.who[..] {
+            [polynomial] => Row {
+                events: tables.events.len() as u64,
+                paths: tables.words.len() as u64,
+                polynomial,
+                ..Row::default()
+            },
+            _ => Row {
+                refusal: 15,
+                left: best.who.len() as u64,
+                ..Row::default()
+            },
+        },
+    }
+}
+
+/// The five tables among guards.
+struct Lent {
+    listing: paths::Lent,
+    undetected: Guarded<u64>,
+}
+
+impl Lent {
+    fn new(lent: Sizes) -> Lent {
+        Lent {
+            listing: paths::Lent::new(lent.listing),
+            undetected: Guarded::new(lent.undetected),
+        }
+    }
+
+    fn lent(&mut self) -> dohvrin::Lent<'_> {
+        dohvrin::Lent {
+            events: self.listing.events.lent(),
+            paths: self.listing.paths.lent(),
+            plain: self.listing.counts.lent(),
+            undetected: self.undetected.lent(),
+            work: self.listing.work.lent(),
+        }
+    }
+
+    fn raw(mut self, call: &Call, expected: Expected) -> (Row, bool) {
+        let (code, m, d) = (call.input.given(), call.m, call.d);
+        let answer = match call.of {
+            None => calls::search(code, m, d, self.lent()),
+            Some(polynomial) => {
+                let answer = calls::count(code, m, d, polynomial, self.lent());
+                Row {
+                    refusal: answer.refusal,
+                    events: answer.events,
+                    paths: answer.paths,
+                    polynomial: if answer.refusal == 0 { polynomial } else { 0 },
+                    left: 0,
+                }
+            }
+        };
+        (answer, self.is_left(expected))
+    }
+
+    fn safe(mut self, call: &Call, expected: Expected) -> (Result<Searched, u64>, bool) {
+        let (code, m, d) = (call.input.given(), call.m, call.d);
+        let answer = match call.of {
+            None => dohvrin::search(code, m, d, self.lent()),
+            Some(polynomial) => {
+                let answer = dohvrin::count(code, m, d, polynomial, self.lent());
+                answer.map(|Listed { events, paths }| {
+                    Searched::Found(Found {
+                        events,
+                        paths,
+                        polynomial,
+                    })
+                })
+            }
+        };
+        (answer.map_err(|no| no.number()), self.is_left(expected))
+    }
+
+    /// Whether the call left what it should: the lists and zeros, zeros, or
+    /// nothing changed; and in any case the guards.
+    fn is_left(&self, expected: Expected) -> bool {
+        let changed = matches!(expected, Ok(_) | Err(13 | 14));
+        let best = expected.ok().map(|(_, best)| best);
+        let undetected = |k: usize| best.and_then(|b| b.counts.get(k)).map(|&c| c as u64);
+        self.listing.is_left(expected.map(|(tables, _)| tables))
+            && self.undetected.is_left(changed, undetected)
+    }
+}
+
+/// Tables that are exactly full.
+pub fn full(tables: &Tables, d: u64) -> Sizes {
+    Sizes {
+        listing: tables.sizes(),
+        undetected: size(d),
+    }
+}
+
+/// The sizes of a listing's tables, with undetected counts enough or more; then
+/// too few of those, alone and with tables too small.
+pub fn draw_sizes(random: &mut Random, tables: &Tables, full: Sizes) -> Vec<Sizes> {
+    let mut all = Vec::new();
+    for listing in listed::draw_sizes(random, tables) {
+        let more = random.pick(&[0, 0, 1, 30, 200]);
+        all.push(Sizes {
+            listing,
+            undetected: full.undetected + size(more),
+        });
+    }
+    let short = full.undetected - 1;
+    for undetected in [short, random.index(full.undetected)] {
+        all.push(Sizes { undetected, ..full });
+        let mut small = Sizes { undetected, ..full };
+        small.listing.events = 0;
+        small.listing.paths = 0;
+        all.push(small);
+    }
+    all
+}
+
+/// Order, counts and work area right or damaged; the sizes of the two other
+/// tables come later.
+pub fn draw(random: &mut Random) -> Call {
+    let (input, d, listing) = listed::draw(random);
+    let most = 12.min(input.bits.saturating_sub(1)).max(1);
+    let m = match random.within(0, 31) {
+        0 => random.pick(&[0, 13, 14, 64, 65, 128]),
+        1 => random.huge(most),
+        2 => input.bits.min(12),
+        _ => random.within(1, most),
+    };
+    let enough = size(d.min(64));
+    let undetected = match random.within(0, 23) {
+        0 => enough.saturating_sub(1),
+        1 => random.index(64),
+        2..=14 => enough,
+        _ => enough + random.index(40),
+    };
+    Call {
+        input,
+        m,
+        d,
+        of: None,
+        lent: Sizes {
+            listing,
+            undetected,
+        },
+    }
+}
+
+/// One time in four a polynomial that is none of degree m.
+pub fn draw_polynomial(random: &mut Random, m: u64) -> u64 {
+    let m = m.min(20);
+    match random.within(0, 3) {
+        0 => wrong_polynomial(random, m),
+        _ => right_polynomial(random, m),
+    }
+}
+
+pub fn right_polynomial(random: &mut Random, m: u64) -> u64 {
+    1 << m | random.next() & ((1 << m) - 1) | 1
+}
+
+/// An even one, one of another degree, or any.
+pub fn wrong_polynomial(random: &mut Random, m: u64) -> u64 {
+    let p = right_polynomial(random, m);
+    match random.within(0, 5) {
+        0 => p & !1,
+        1 => p ^ 1 << m,
+        2 => p ^ 3 << m,
+        3 => p | 1 << random.within(m + 1, 63),
+        4 => random.pick(&[0, 1, u64::MAX]),
+        _ => random.huge(p) & !1,
+    }
+}

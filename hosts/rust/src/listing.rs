@@ -1,0 +1,80 @@
+//! Error events and paths, in tables that the caller lends.
+
+use crate::refusal::accepted;
+use crate::{calls, joined, Code, Event, Refusal};
+
+/// The least numbers of a work area.
+pub const WORK: usize = 8192;
+
+/// What a listing leaves in its tables.
+#[derive(Clone, Copy, Debug, PartialEq, Eq)]
+pub struct Listed {
+    /// How many events.
+    pub events: usize,
+    /// How many paths.
+    pub paths: usize,
+}
+
+/// The error events of weight below d, at most N steps long: how many. The
+/// table has them first, by state, length and input number, and zero records
+/// after them; the work area, of `WORK` numbers at least, is zeros. Refusal 13,
+/// more events than entries, leaves zeros in both; another refusal leaves both
+/// as they were.
+pub fn collect(
+    code: Code,
+    d: u64,
+    table: &mut [Event],
+    work: &mut [u64],
+) -> Result<usize, Refusal> {
+    let answer = calls::collect(code, d, table, work);
+    accepted(answer.refusal)?;
+    // Not more than the table's entries.
+    Ok(answer.value as usize)
+}
+
+/// The paths of weight below d, nonzero words of N bits, with the events that
+/// they are joined of: how many there are of both. The path table has two
+/// numbers for each path, its low half first, ordered by weight and number, and
+/// zeros after them; `counts` says how many paths there are of each weight from
+/// 0 to d - 1, with zeros after them; the event table is as `collect` leaves it;
+/// the work area, of `WORK` numbers at least, is zeros. Refusals 13, more events
+/// than entries, and 14, more paths than the table takes, leave zeros in all
+/// four; another refusal leaves all four as they were.
+pub fn list(
+    code: Code,
+    d: u64,
+    events: &mut [Event],
+    paths: &mut [u64],
+    counts: &mut [u64],
+    work: &mut [u64],
+) -> Result<Listed, Refusal> {
+    let answer = calls::list(code, d, events, paths, counts, work);
+    accepted(answer.refusal)?;
+    // Not more than the tables take.
+    Ok(Listed {
+        events: answer.events as usize,
+        paths: answer.paths as usize,
+    })
+}
+
+/// The words of one weight in a path table, two numbers each, by the counts of
+/// its paths. Refusal 10: there is no count of that weight, or the table ends
+/// before the words that the counts tell of.
+pub fn part<'a>(paths: &'a [u64], counts: &[u64], weight: u64) -> Result<&'a [u64], Refusal> {
+    let answer = calls::part(paths, counts, weight);
+    accepted(answer.refusal)?;
+    let start = answer.start as usize;
+    Ok(&paths[start..start + answer.numbers as usize])
+}
+
+/// The words of a path table, or of a part of it.
+pub fn words(numbers: &[u64]) -> impl Iterator<Item = u128> + '_ {
+    numbers.chunks_exact(2).map(|pair| joined(pair[0], pair[1]))
+}
+
+impl Event {
+    /// The input number: the first input is bit 0.
+    pub fn input(&self) -> u128 {
+        joined(self.low, self.high)
+    }
+}
