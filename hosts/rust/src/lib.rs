@@ -9,7 +9,7 @@
 //! use dohvrin::{Order, Tables};
 //!
 //! let order = Order::new(&[0o13, 0o17], 3, 20, 6, 12).unwrap();
-//! let mut tables = Tables::within(1 << 20);
+//! let mut tables = Tables::for_order(&order, 1 << 20).unwrap();
 //! println!("{}", tables.search(&order).unwrap().text());
 //! ```
 //!
@@ -84,6 +84,8 @@
 //! ```
 
 pub mod calls;
+mod counting;
+mod entries;
 mod listing;
 mod order;
 mod refusal;
@@ -93,6 +95,7 @@ mod tables;
 mod word;
 
 pub use calls::Event;
+pub use entries::{Entries, NoRoom};
 pub use listing::{collect, list, part, words, Listed, WORK};
 pub use order::Order;
 pub use refusal::Refusal;

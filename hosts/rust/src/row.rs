@@ -8,7 +8,7 @@ use crate::{refusal_text, row_text, Found, Order, Refusal, TEXT};
 /// use dohvrin::{Order, Tables};
 ///
 /// let order = Order::new(&[1, 3], 1, 3, 2, 4).unwrap();
-/// let row = Tables::within(1 << 20).search(&order).unwrap();
+/// let row = Tables::with_entries(4, 7).search(&order).unwrap();
 /// assert_eq!(row.text().lines().last(), Some("CRC 0x5"));
 /// ```
 #[derive(Clone, Debug, PartialEq, Eq)]

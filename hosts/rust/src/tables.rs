@@ -1,19 +1,13 @@
-//! The tables that a search needs, owned, and larger where they are too small.
+//! The tables that a search needs, owned.
 
 use crate::{count, part, search, words};
-use crate::{Event, Found, Lent, Order, Refusal, Row, Searched, WORK};
-use std::mem::size_of;
+use crate::{Entries, Event, Found, Lent, NoRoom, Order, Refusal, Row, Searched, WORK};
 
 /// Weights below the greatest threshold.
 const WEIGHTS: usize = 64;
 
-/// The entries that tables within a large limit begin with.
-const FIRST_EVENTS: usize = 1 << 18;
-const FIRST_PATHS: usize = 1 << 20;
-
-/// The numbers of a path, and their bytes.
+/// The numbers of a path.
 const PATH: usize = 2;
-const PATH_BYTES: usize = PATH * size_of::<u64>();
 
 /// Tables for events, paths, counts and work. What was listed can be read after
 /// an accepted call and after a tie; after another refusal there is nothing.
@@ -22,13 +16,8 @@ const PATH_BYTES: usize = PATH * size_of::<u64>();
 /// use dohvrin::{Order, Tables};
 ///
 /// let order = Order::new(&[1, 3], 1, 4, 2, 6).unwrap();
-/// let mut tables = Tables::within(1 << 20);
-/// let row = loop {
-///     match tables.search(&order) {
-///         Err(refusal) if tables.grow(refusal) => {}
-///         answer => break answer.unwrap(),
-///     }
-/// };
+/// let mut tables = Tables::for_order(&order, 1 << 20).unwrap();
+/// let row = tables.search(&order).unwrap();
 /// assert_eq!((row.events(), row.paths(), row.polynomial()), (5, 13, 0x5));
 /// assert_eq!(tables.paths_of(4).collect::<Vec<_>>(), [3, 6, 9, 12, 15]);
 /// ```
@@ -40,51 +29,39 @@ pub struct Tables {
     work: Vec<u64>,
     /// Weights below this one are listed.
     listed: usize,
-    /// The bytes that event and path table may have together.
-    limit: usize,
 }
 
 impl Tables {
-    /// Tables of so many entries, which may not grow.
+    /// Tables of so many entries.
     pub fn with_entries(events: usize, paths: usize) -> Tables {
-        Tables::sized(events, paths, 0)
+        Tables::of(Entries { events, paths }).expect("memory for the tables")
     }
 
-    /// Tables that may grow as long as events and paths have no more bytes.
-    pub fn within(limit: usize) -> Tables {
-        let events = FIRST_EVENTS.min(limit / 4 / size_of::<Event>());
-        let paths = FIRST_PATHS.min(limit / 4 / PATH_BYTES);
-        Tables::sized(events, paths, limit)
-    }
-
-    /// The bytes of event and path table of so many entries, where they can be
-    /// counted.
-    pub fn bytes(events: usize, paths: usize) -> Option<usize> {
-        let events = events.checked_mul(size_of::<Event>())?;
-        let paths = paths.checked_mul(PATH_BYTES)?;
-        events.checked_add(paths)
-    }
-
-    fn sized(events: usize, paths: usize, limit: usize) -> Tables {
-        Tables {
-            events: vec![Event::default(); events],
-            paths: vec![0; paths.saturating_mul(PATH)],
+    /// Tables of these sizes, or none where there is no memory for them.
+    pub fn of(entries: Entries) -> Option<Tables> {
+        Some(Tables {
+            events: zeros(entries.events)?,
+            paths: zeros(entries.paths.checked_mul(PATH)?)?,
             plain: [0; WEIGHTS],
             undetected: [0; WEIGHTS],
-            work: vec![0; WORK],
+            work: zeros(WORK)?,
             listed: 0,
-            limit,
+        })
+    }
+
+    /// Tables of the sizes that an order needs, by a count, where events and
+    /// paths have no more bytes than the limit and there is memory for them.
+    pub fn for_order(order: &Order, limit: usize) -> Result<Tables, NoRoom> {
+        let needed = Entries::needed(order).within(limit)?;
+        Tables::of(needed).ok_or(NoRoom { needed, limit })
+    }
+
+    /// The entries of event and path table.
+    pub fn entries(&self) -> Entries {
+        Entries {
+            events: self.events.len(),
+            paths: self.paths.len() / PATH,
         }
-    }
-
-    /// Entries of the event table.
-    pub fn event_entries(&self) -> usize {
-        self.events.len()
-    }
-
-    /// Entries of the path table.
-    pub fn path_entries(&self) -> usize {
-        self.paths.len() / PATH
     }
 
     /// The row of the best polynomial of an order. After a tie, `undetected`
@@ -146,46 +123,35 @@ impl Tables {
         words(part(&self.paths, self.plain(), weight).unwrap_or(&[]))
     }
 
-    /// Doubles the table that was too small, as far as the limit allows: whether
-    /// it is larger now. What was listed is gone.
-    pub fn grow(&mut self, refusal: Refusal) -> bool {
-        self.listed = 0;
-        let events = self.events.len() * size_of::<Event>();
-        let paths = self.path_entries() * PATH_BYTES;
-        let left = |other| self.limit.saturating_sub(other);
-        match refusal {
-            Refusal::Events => {
-                let most = left(paths) / size_of::<Event>();
-                enlarge(&mut self.events, most, 1)
-            }
-            Refusal::Paths => {
-                let most = left(events) / PATH_BYTES;
-                enlarge(&mut self.paths, most, PATH)
-            }
-            _ => false,
-        }
+    /// Doubles the table that a refusal found too small, as far as events and
+    /// paths have no more bytes than the limit: whether it is larger now. What
+    /// was listed is gone.
+    pub fn grow(&mut self, refusal: Refusal, limit: usize) -> bool {
+        let before = self.entries();
+        let Some(larger) = before.doubled(refusal, limit) else {
+            return false;
+        };
+        // Freed before the larger ones are made: the limit holds in between, too.
+        *self = Tables::with_entries(0, 0);
+        let grown = Tables::of(larger);
+        let there = grown.is_some();
+        *self = grown.unwrap_or_else(|| Tables::with_entries(before.events, before.paths));
+        there
     }
 }
 
-/// Twice the entries, but not more than `most`, of so many elements each.
-fn enlarge<T: Clone + Default>(table: &mut Vec<T>, most: usize, each: usize) -> bool {
-    let before = table.len();
-    // One entry at least, so that an empty table grows too.
-    let after = (2 * before).max(each).min(most * each);
-    if after <= before {
-        return false;
-    }
-    // Freed before the larger one is made: the limit holds in between, too.
-    *table = Vec::new();
-    let there = table.try_reserve_exact(after).is_ok();
-    table.resize(if there { after } else { before }, T::default());
-    there
+/// So many zeros, where there is memory for them.
+fn zeros<T: Clone + Default>(entries: usize) -> Option<Vec<T>> {
+    let mut table = Vec::new();
+    table.try_reserve_exact(entries).ok()?;
+    table.resize(entries, T::default());
+    Some(table)
 }
 
 #[cfg(test)]
 mod tests {
     use super::Tables;
-    use crate::{Order, Refusal};
+    use crate::{Entries, NoRoom, Order, Refusal};
 
     fn code_s(bits: u64, d: u64) -> Order {
         Order::new(&[1, 3], 1, bits, 2, d).unwrap()
@@ -203,10 +169,19 @@ mod tests {
     }
 
     #[test]
-    fn bytes_of_both_tables() {
-        assert_eq!(Tables::bytes(512, 2048), Some(512 * 40 + 2048 * 16));
-        assert_eq!(Tables::bytes(usize::MAX / 40, usize::MAX / 16), None);
-        assert_eq!(Tables::bytes(usize::MAX, 0), None);
+    fn tables_for_an_order() {
+        let order = code_s(4, 6);
+        let limit = 5 * 40 + 13 * 16;
+        let mut tables = Tables::for_order(&order, limit).unwrap();
+        let needed = Entries {
+            events: 5,
+            paths: 13,
+        };
+        assert_eq!(tables.entries(), needed);
+        assert_eq!(tables.search(&order).unwrap().polynomial(), 0x5);
+        let limit = limit - 1;
+        let no_room = Tables::for_order(&order, limit).err();
+        assert_eq!(no_room, Some(NoRoom { needed, limit }));
     }
 
     #[test]
@@ -238,46 +213,45 @@ mod tests {
     }
 
     #[test]
-    fn tables_grow_to_their_limit() {
-        // Doubling stops at 8 events and, where the limit is, at 13 paths.
-        let mut tables = Tables::sized(1, 1, 8 * 40 + 13 * 16);
-        let order = code_s(4, 6);
-        let mut refused = Vec::new();
+    fn tables_grow_until_they_hold_all() {
+        let (order, limit) = (code_s(4, 6), 8 * 40 + 13 * 16);
+        let mut tables = Tables::with_entries(1, 1);
+        let mut grown = Vec::new();
         let row = loop {
             match tables.search(&order) {
-                Ok(row) => break row,
-                Err(refusal) => {
-                    assert!(tables.grow(refusal));
-                    refused.push((
-                        refusal.number(),
-                        tables.event_entries(),
-                        tables.path_entries(),
-                    ));
+                Err(refusal) if tables.grow(refusal, limit) => {
+                    let Entries { events, paths } = tables.entries();
+                    grown.push((refusal.number(), events, paths));
                 }
+                answer => break answer.unwrap(),
             }
         };
         assert_eq!(row.paths(), 13);
-        assert_eq!(refused[..3], [(13, 2, 1), (13, 4, 1), (13, 8, 1)]);
-        assert_eq!(
-            refused[3..],
-            [(14, 8, 2), (14, 8, 4), (14, 8, 8), (14, 8, 13)]
-        );
+        assert_eq!(grown[..3], [(13, 2, 1), (13, 4, 1), (13, 8, 1)]);
+        let paths = [(14, 8, 2), (14, 8, 4), (14, 8, 8), (14, 8, 13)];
+        assert_eq!(grown[3..], paths);
     }
 
     #[test]
     fn a_table_at_its_limit_stays() {
         let mut tables = Tables::with_entries(4, 13);
-        assert!(!tables.grow(Refusal::Events));
-        assert!(!tables.grow(Refusal::Tie { left: 2 }));
-        assert_eq!((tables.event_entries(), tables.path_entries()), (4, 13));
-        let tiny = Tables::within(0);
-        assert_eq!((tiny.event_entries(), tiny.path_entries()), (0, 0));
+        assert!(!tables.grow(Refusal::Events, 4 * 40 + 13 * 16));
+        assert!(!tables.grow(Refusal::Tie { left: 2 }, 1 << 20));
+        let kept = tables.entries();
+        assert_eq!((kept.events, kept.paths), (4, 13));
     }
 
     #[test]
-    fn an_empty_table_grows() {
-        let mut tables = Tables::sized(0, 0, 1000);
-        assert!(tables.grow(Refusal::Events) && tables.grow(Refusal::Paths));
-        assert_eq!((tables.event_entries(), tables.path_entries()), (1, 1));
+    fn no_memory_for_it() {
+        let entries = Entries {
+            events: usize::MAX / 64,
+            paths: 0,
+        };
+        assert!(Tables::of(entries).is_none());
+        let entries = Entries {
+            events: 0,
+            paths: usize::MAX,
+        };
+        assert!(Tables::of(entries).is_none());
     }
 }

@@ -18,6 +18,7 @@ mod random;
 mod records;
 mod search;
 mod searched;
+mod sizes;
 mod stored;
 mod tally;
 mod texts;
@@ -31,6 +32,7 @@ const USAGE: &str = "\
 usage: compare                  every call
        compare --short          every call on few inputs, as for valgrind
        compare --records N      so many orders by record alone
+       compare --sizes N        so many orders whose sizes are counted, alone
        compare --rows FILE...   the stored cases of these files";
 
 /// Compares a call on so many inputs.
@@ -38,7 +40,7 @@ type Family = fn(u64) -> Tally;
 
 /// Every family with its number of inputs, and that of a short run, in which
 /// each question still refuses some. The two large orders are not in it.
-const FAMILIES: [(Family, u64, u64); 22] = [
+const FAMILIES: [(Family, u64, u64); 23] = [
     (checks::append, 400_000, 1_000),
     (checks::strip, 400_000, 1_000),
     (checks::test, 400_000, 1_000),
@@ -58,6 +60,7 @@ const FAMILIES: [(Family, u64, u64); 22] = [
     (search::small_tables, 500, 12),
     (search::long_tables, 40, 2),
     (search::large_tables, 1, 0),
+    (sizes::counted, 3_000, 20),
     (texts::row_text, 100_000, 300),
     (texts::refusal_text, 100_000, 300),
     (orders::orders, 100_000, 600),
@@ -90,6 +93,10 @@ fn run(arguments: &[String]) -> Result<(u64, u64), String> {
         ["--records", number] => {
             let records = number.parse().map_err(|_| format!("{number}: no number"))?;
             Ok(tallied([(orders::orders as Family, records)]))
+        }
+        ["--sizes", number] => {
+            let orders = number.parse().map_err(|_| format!("{number}: no number"))?;
+            Ok(tallied([(sizes::counted as Family, orders)]))
         }
         ["--rows", _, ..] => stored::rows(&arguments[1..]),
         _ => Err(USAGE.to_string()),

@@ -1,41 +1,15 @@
 //! The command line.
 
+use crate::desk::Desk;
+use crate::memory::Memory;
 use crate::numbers::{digits, Numbers};
+use dohvrin::Entries;
+use std::thread;
 
 /// What `--help` prints.
-pub const HELP: &str = "\
-usage: dso-row [options] n v N m d g1 .. gn
-       dso-row [options] -
-       dso-row [options] --file FILE
-       dso-row [options] --check FILE
+pub const HELP: &str = include_str!("help.txt");
 
-Prints the row of an order: the best check polynomial, and how many wrong words
-of each weight below d pass it unseen. The order is given as the ORDER line
-shows it, generators in octal and the rest decimal, or with - as a record on
-standard input. A refusal prints NO and its number.
-
-  --of 0x61      the counts of this polynomial instead of the search
-  --json         the same as JSON: one line for each row, polynomials as text
-  --checklist    the row, and what the person who signs it looks at
-  --record       the order's record instead, its bytes as dso reads them
-  --record-hex   the same bytes as pairs of hexadecimal digits
-  --file FILE    the rows of several orders, one a line (ORDER may stand before
-                 the numbers; empty lines and # lines are passed over)
-  --check FILE   whether each row of FILE, printed before, is what is computed
-                 now, and where not; with --of, rows of that polynomial
-  --memory MiB   event and path table may grow to this size (1024)
-  --events E     with --paths P, tables of exactly so many entries, which do not
-                 grow: dso lends 512 and 2048
-  --help         this text
-
-FILE may be - for standard input. The tables are doubled where they are too
-small, and standard error says so.
-
-Exit status: 0 answered, refusals included; 1 reading or writing failed;
-2 bad arguments; 3 a row differs, or a point of the checklist fails.
-";
-
-/// MiB that the tables may grow to, where no option says otherwise.
+/// MiB that the tables may have, where no option says otherwise.
 const MEMORY: usize = 1024;
 
 /// Where an order comes from.
@@ -64,16 +38,23 @@ pub struct Args {
     /// The polynomial whose counts are wanted, rather than the search.
     pub of: Option<u64>,
     pub json: bool,
-    pub sizes: Sizes,
+    /// How many orders of a file are worked on at a time.
+    pub jobs: usize,
+    /// MiB that event and path tables may have.
+    memory: usize,
+    /// Their sizes, where they are not those that an order needs.
+    entries: Option<Entries>,
 }
 
-/// How large event and path table are.
-#[derive(Clone, Copy)]
-pub enum Sizes {
-    /// As large as they must, within so many MiB.
-    Within(usize),
-    /// So many entries.
-    Exactly { events: usize, paths: usize },
+impl Args {
+    /// What rows are made with.
+    pub fn desk(&self) -> Desk {
+        Desk {
+            of: self.of,
+            entries: self.entries,
+            memory: Memory::new(self.memory << 20),
+        }
+    }
 }
 
 #[derive(Default)]
@@ -81,6 +62,7 @@ struct Options {
     help: bool,
     json: bool,
     of: Option<u64>,
+    jobs: Option<usize>,
     memory: Option<usize>,
     events: Option<usize>,
     paths: Option<usize>,
@@ -124,7 +106,9 @@ pub fn read(arguments: impl Iterator<Item = String>) -> Result<Args, String> {
     Ok(Args {
         of: options.of,
         json: options.json,
-        sizes: options.sizes()?,
+        jobs: options.jobs()?,
+        memory: options.memory.unwrap_or(MEMORY),
+        entries: options.entries()?,
         task: options.task(&order)?,
     })
 }
@@ -143,6 +127,7 @@ impl Options {
             "--help" => self.help = true,
             "--json" => self.json = true,
             "--of" => self.of = Some(polynomial(&value()?)?),
+            "--jobs" => self.jobs = Some(jobs(&value()?)?),
             "--memory" => self.memory = Some(memory(&value()?)?),
             "--events" => self.events = Some(entries(option, &value()?)?),
             "--paths" => self.paths = Some(entries(option, &value()?)?),
@@ -182,22 +167,27 @@ impl Options {
         Ok(())
     }
 
-    fn sizes(&self) -> Result<Sizes, String> {
-        let memory = self.memory.unwrap_or(MEMORY);
+    fn jobs(&self) -> Result<usize, String> {
+        let of_a_file = matches!(self.other, Some(Other::List(_) | Other::Check(_)));
+        match self.jobs {
+            Some(_) if !of_a_file => Err("--jobs: not without --file or --check".to_string()),
+            Some(jobs) => Ok(jobs),
+            None => Ok(thread::available_parallelism().map_or(1, usize::from)),
+        }
+    }
+
+    fn entries(&self) -> Result<Option<Entries>, String> {
         let (events, paths) = match (self.events, self.paths) {
-            (None, None) => return Ok(Sizes::Within(memory)),
+            (None, None) => return Ok(None),
             (Some(events), Some(paths)) => (events, paths),
             (Some(_), None) => return Err("--events: not without --paths".to_string()),
             (None, Some(_)) => return Err("--paths: not without --events".to_string()),
         };
-        let bytes = dohvrin::Tables::bytes(events, paths);
-        if bytes.is_some_and(|bytes| bytes <= memory << 20) {
-            Ok(Sizes::Exactly { events, paths })
-        } else {
-            Err(format!(
-                "--events {events} --paths {paths}: not within --memory {memory}"
-            ))
-        }
+        let memory = self.memory.unwrap_or(MEMORY);
+        let entries = Entries { events, paths }.within(memory << 20);
+        entries
+            .map(Some)
+            .map_err(|_| format!("--events {events} --paths {paths}: not within --memory {memory}"))
     }
 
     fn task(self, order: &[String]) -> Result<Task, String> {
@@ -237,6 +227,13 @@ fn polynomial(value: &str) -> Result<u64, String> {
         .strip_prefix("0x")
         .and_then(|word| digits(word, 16))
         .ok_or_else(|| format!("--of {value}: not a polynomial in hexadecimal such as 0x61"))
+}
+
+fn jobs(value: &str) -> Result<usize, String> {
+    digits(value, 10)
+        .and_then(|number| usize::try_from(number).ok())
+        .filter(|&number| number > 0)
+        .ok_or_else(|| format!("--jobs {value}: not a number of jobs"))
 }
 
 fn memory(value: &str) -> Result<usize, String> {

@@ -2,10 +2,11 @@
 
 use crate::args::Args;
 use crate::desk::Desk;
+use crate::jobs::{self, Notes};
 use crate::numbers::Numbers;
 use crate::{put, text_of, Stop};
 
-/// Writes a line for each row of a file.
+/// Writes a line for each row of a file, in their order.
 pub fn write(file: &str, args: &Args) -> Result<(), Stop> {
     let wrong = |why| Stop::Arguments(format!("{file}, {why}"));
     let text = text_of(file)?;
@@ -13,15 +14,19 @@ pub fn write(file: &str, args: &Args) -> Result<(), Stop> {
     if rows.is_empty() {
         return Err(wrong("no row in it".to_string()));
     }
-    let mut desk = Desk::new(args.of, args.sizes);
-    let mut differ = 0;
-    for (row, at) in rows.iter().zip(1..) {
-        let difference = difference(row, &mut desk);
+    let (desk, checked) = (args.desk(), rows.len());
+    let (mut at, mut differ) = (0, 0);
+    let compare = move |row: &Vec<String>, notes: Notes| {
+        let difference = difference(row, &desk, notes);
+        (row[0].trim().to_string(), difference)
+    };
+    jobs::run(rows, args.jobs, compare, |(order, difference)| {
+        at += 1;
         differ += usize::from(difference.is_some());
         let said = difference.map_or("the same".to_string(), |how| format!("DIFFERS, {how}"));
-        put(format!("row {at}, {}: {said}\n", row[0].trim()).as_bytes())?;
-    }
-    put(format!("rows checked: {}, different: {differ}\n", rows.len()).as_bytes())?;
+        Ok(put(format!("row {at}, {order}: {said}\n").as_bytes())?)
+    })?;
+    put(format!("rows checked: {checked}, different: {differ}\n").as_bytes())?;
     if differ == 0 {
         Ok(())
     } else {
@@ -31,14 +36,14 @@ pub fn write(file: &str, args: &Args) -> Result<(), Stop> {
 
 /// The rows of a text: each begins at an ORDER line. Empty lines are passed
 /// over; the error is a line that stands before the first ORDER line.
-fn rows(text: &str) -> Result<Vec<Vec<&str>>, String> {
-    let mut rows: Vec<Vec<&str>> = Vec::new();
+fn rows(text: &str) -> Result<Vec<Vec<String>>, String> {
+    let mut rows: Vec<Vec<String>> = Vec::new();
     for line in text.split('\n').filter(|line| !line.trim().is_empty()) {
         if line.split_whitespace().next() == Some("ORDER") {
             rows.push(Vec::new());
         }
         match rows.last_mut() {
-            Some(row) => row.push(line),
+            Some(row) => row.push(line.to_string()),
             None => return Err(format!("{line:?}: no ORDER line before it")),
         }
     }
@@ -46,12 +51,13 @@ fn rows(text: &str) -> Result<Vec<Vec<&str>>, String> {
 }
 
 /// How a printed row differs from what is computed now.
-fn difference(row: &[&str], desk: &mut Desk) -> Option<String> {
-    let numbers = match Numbers::read_line(row[0]) {
+fn difference(row: &[String], desk: &Desk, notes: Notes) -> Option<String> {
+    let numbers = match Numbers::read_line(&row[0]) {
         Ok(numbers) => numbers,
         Err(message) => return Some(format!("it is no order: {message}")),
     };
-    let now = desk.lines(&numbers);
+    let row: Vec<&str> = row.iter().map(String::as_str).collect();
+    let now = desk.lines(&numbers, notes);
     let now: Vec<&str> = now.lines().collect();
     let at = (0..row.len().max(now.len())).find(|&at| row.get(at) != now.get(at))?;
     let shown =

@@ -1,22 +1,22 @@
 //! A price list: the rows of several orders.
 
 use crate::args::Args;
-use crate::desk::Desk;
 use crate::numbers::Numbers;
-use crate::{put_row, text_of, Stop};
+use crate::{jobs, put_row, text_of, Stop};
 
-/// Writes one row after another. All lines are read before the first is made.
+/// Writes one row after another, in the order of the file, each by one write.
+/// All lines are read before the first is made.
 pub fn write(file: &str, args: &Args) -> Result<(), Stop> {
     let wrong = |why| Stop::Arguments(format!("{file}, {why}"));
     let orders = orders(&text_of(file)?).map_err(wrong)?;
     if orders.is_empty() {
         return Err(wrong("no order in it".to_string()));
     }
-    let mut desk = Desk::new(args.of, args.sizes);
-    for numbers in &orders {
-        put_row(&desk.lines(numbers), args.json)?;
-    }
-    Ok(())
+    let desk = args.desk();
+    let lines = move |numbers: &Numbers, notes: jobs::Notes| desk.lines(numbers, notes);
+    jobs::run(orders, args.jobs, lines, |row| {
+        Ok(put_row(&row, args.json)?)
+    })
 }
 
 /// The order of each line; empty lines and # lines are passed over. The error

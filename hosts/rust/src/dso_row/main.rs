@@ -5,14 +5,17 @@ mod args;
 mod check;
 mod checklist;
 mod desk;
+mod jobs;
 mod json;
 mod list;
+mod memory;
 mod numbers;
 mod progress;
 
 use args::{Args, Source, Task};
-use desk::Desk;
+use desk::Made;
 use dohvrin::{Order, Refusal};
+use jobs::Note;
 use std::fs::File;
 use std::io::{self, ErrorKind, Read, Write};
 use std::process::ExitCode;
@@ -73,11 +76,10 @@ fn answer(args: &Args) -> Result<(), Stop> {
     match &args.task {
         Task::Help => put(args::HELP.as_bytes())?,
         Task::Row(source) => {
-            let order = order(source)?;
-            let row = Desk::new(args.of, args.sizes).row(&order)?;
+            let row = made(order(source)?, args)?.answer?;
             put_row(&row.text(), args.json)?;
         }
-        Task::Checklist(source) => sign(&order(source)?, args)?,
+        Task::Checklist(source) => sign(order(source)?, args)?,
         Task::Record(source) => put(&order(source)?.record())?,
         Task::RecordHex(source) => {
             let bytes = order(source)?.record();
@@ -102,16 +104,28 @@ fn order(source: &Source) -> Result<Order, Stop> {
     })
 }
 
+/// The row of an order.
+fn made(order: Order, args: &Args) -> Result<Made, Stop> {
+    let desk = args.desk();
+    jobs::alone(move |notes| desk.row(&order, notes))
+}
+
 /// The row of an order, or its tie, and the checklist.
-fn sign(order: &Order, args: &Args) -> Result<(), Stop> {
-    let mut desk = Desk::new(None, args.sizes);
-    let answer = desk.row(order);
+fn sign(order: Order, args: &Args) -> Result<(), Stop> {
+    let Made { answer, tables, .. } = made(order.clone(), args)?;
     match &answer {
         Ok(row) => put_row(&row.text(), false)?,
         Err(tie @ Refusal::Tie { .. }) => refused(*tie, false)?,
         Err(refusal) => return Err(Stop::Refused(*refusal)),
     }
-    if checklist::write(&mut io::stdout().lock(), order, &answer, desk.tables())? {
+    let (points, right) = jobs::alone(move |notes| {
+        notes(Note::Now("the checklist".to_string()));
+        let mut points = Vec::new();
+        let right = checklist::write(&mut points, &order, &answer, &tables);
+        right.map(|right| (points, right))
+    })??;
+    put(&points)?;
+    if right {
         Ok(())
     } else {
         Err(Stop::Differs)

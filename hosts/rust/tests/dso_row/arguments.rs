@@ -13,6 +13,7 @@ fn help() {
         "--record",
         "--file",
         "--check",
+        "--jobs",
         "--memory",
         "--events",
         "--paths",
@@ -59,6 +60,21 @@ fn the_message_names_the_argument() {
         (
             "--memory 99999999999999999",
             "--memory 99999999999999999: not a number of MiB",
+        ),
+        ("--jobs 0 --file -", "--jobs 0: not a number of jobs"),
+        ("--jobs two --file -", "--jobs two: not a number of jobs"),
+        ("--jobs -1 --file -", "--jobs -1: not a number of jobs"),
+        (
+            "--file - --jobs",
+            "--jobs: its value is missing (see --help)",
+        ),
+        (
+            "--jobs 2 2 1 4 2 6 1 3",
+            "--jobs: not without --file or --check",
+        ),
+        (
+            "--jobs 2 --checklist -",
+            "--jobs: not without --file or --check",
         ),
         (
             "--events few --paths 1 -",

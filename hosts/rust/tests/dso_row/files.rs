@@ -1,7 +1,7 @@
 //! Price lists, and rows that were printed before.
 
 use crate::rows::EXAMPLE;
-use crate::run::{file, run, run_on};
+use crate::run::{file, program, run, run_on};
 
 const ORDERS: &str = "\
 # small codes
@@ -102,14 +102,86 @@ fn only_the_wrong_row_differs() {
 
 #[test]
 fn an_order_does_not_feel_the_one_before() {
-    // The events of the first fill all of 1 MiB; the second needs more paths
-    // than there is room for at first.
-    let (events, paths) = ("2 8 76 12 21 561 753", "2 3 70 6 13 13 17");
-    let orders = format!("{events}\n{paths}\n");
+    // The events of the first pass 1 MiB, the two others just fit.
+    let (events, paths) = ("2 8 76 12 21 561 753", "2 3 70 6 14 13 17");
+    let orders = format!("{paths}\n{events}\n{paths}\n");
     let list = run_on("--memory 1 --file -", orders.as_bytes());
-    let alone = run(&format!("--memory 1 {paths}"));
-    assert_eq!(list.out, format!("ORDER {events}\nNO 13\n{}", alone.out));
-    assert!(list.err.ends_with(&alone.err));
+    let alone = run(&format!("--memory 1 {paths}")).out;
+    assert_eq!(list.out, format!("{alone}ORDER {events}\nNO 13\n{alone}"));
+    let needed = "5079947 events and 882816 paths, 208 MiB: more than --memory 1";
+    let told = format!("dso-row: ORDER {events}: the tables need {needed}\n");
+    assert_eq!(list.err, told);
+}
+
+/// Orders of all kinds: long and short in turn, refusals and ties.
+fn mixed() -> String {
+    (0..40)
+        .map(|k| match k % 4 {
+            0 => format!("2 3 {} 6 12 13 17\n", 70 - k),
+            1 => format!("2 1 4 2 {} 1 3\n", k % 11),
+            2 => format!("3 2 {} 4 {} 5 7 7\n", 6 + k, 5 + k % 9),
+            _ => format!("2 6 40 6 {} 133 171\n", 8 + k % 5),
+        })
+        .collect()
+}
+
+#[test]
+fn any_number_of_jobs_prints_the_same() {
+    let orders = mixed();
+    for options in ["", "--json", "--of 0x43", "--events 100 --paths 2000"] {
+        let of = |jobs| {
+            let arguments = format!("{options} --jobs {jobs} --file -");
+            let run = run_on(&arguments, orders.as_bytes());
+            assert_eq!((run.status, run.err.as_str()), (0, ""), "{arguments}");
+            run.out
+        };
+        let alone = of(1);
+        assert!(alone.lines().count() >= 40);
+        for jobs in [2, 3, 1000] {
+            assert!(of(jobs) == alone, "{options} --jobs {jobs}");
+        }
+    }
+}
+
+#[test]
+fn any_number_of_jobs_checks_the_same() {
+    let rows = run_on("--file -", mixed().as_bytes()).out;
+    let rows = rows.replace("EVENTS 357\n", "EVENTS 356\n");
+    let of = |jobs| run_on(&format!("--check - --jobs {jobs}"), rows.as_bytes());
+    let alone = of(1);
+    assert_eq!((alone.status, alone.out.lines().count()), (3, 41));
+    assert!(alone.out.contains("DIFFERS") && alone.out.contains("the same"));
+    for jobs in [2, 5] {
+        assert!(of(jobs).out == alone.out, "--jobs {jobs}");
+    }
+}
+
+#[test]
+fn jobs_share_the_memory() {
+    // Each needs more than half of it: they wait, and none is refused.
+    let order = "2 3 70 6 14 13 17";
+    let orders = format!("{order}\n").repeat(6);
+    let list = run_on("--memory 1 --jobs 6 --file -", orders.as_bytes());
+    assert_eq!((list.status, list.err.as_str()), (0, ""));
+    assert_eq!(list.out, run(order).out.repeat(6));
+}
+
+#[test]
+fn a_list_whose_output_is_full_ends() {
+    let Ok(full) = std::fs::File::options().write(true).open("/dev/full") else {
+        return;
+    };
+    let orders = file(
+        "full",
+        "2 1 4 2 6 1 3\n2 3 70 6 18 13 17\n2 8 76 12 21 561 753\n",
+    );
+    let list = program()
+        .args(["--jobs", "3", "--file", &orders])
+        .stdout(full)
+        .output()
+        .unwrap();
+    assert_eq!(list.status.code(), Some(1));
+    assert!(list.stderr.starts_with(b"dso-row: "));
 }
 
 #[test]

@@ -1,4 +1,4 @@
-//! Rows, refusals, JSON, and tables that grow.
+//! Rows, refusals, JSON, and tables as large as they must be.
 
 use crate::run::{bytes_on, program, run, run_on};
 use dso_ref::{row, Lent, Method, Order};
@@ -142,34 +142,53 @@ fn the_second_tool_prints_the_same() {
 }
 
 #[test]
-fn tables_grow_and_say_so() {
-    // 17,605 paths: a quarter of 1 MiB takes 16,384 of them.
-    let order = "2 3 70 6 13 13 17";
-    let whole = run(order);
-    assert_eq!((whole.status, whole.err.as_str()), (0, ""));
-    let grown = run(&format!("--memory 1 {order}"));
-    assert_eq!((grown.status, grown.out), (0, whole.out));
-    assert_eq!(grown.err, "dso-row: more than 16384 paths, trying 32768\n");
+fn tables_have_the_needed_size_at_once() {
+    // Two tables that together just fit into 31 MiB.
+    let run = run("--memory 31 2 3 70 6 18 13 17");
+    assert_eq!((run.status, run.err.as_str()), (0, ""));
+    let row = "ORDER 2 3 70 6 18 13 17\nEVENTS 15852\nPATHS 1940785\n";
+    assert!(run.out.starts_with(row) && run.out.ends_with("CRC 0x63\n"));
+}
+
+/// The lines of a refusal before the order is run.
+fn refused_before(needed: &str, memory: usize, question: &str) -> String {
+    format!(
+        "dso-row: the tables need {needed}: more than --memory {memory}\n\
+         dso-row: refused by question {question} table takes\n"
+    )
 }
 
 #[test]
-fn tables_grow_to_the_limit_alone() {
-    let many_paths = run("--memory 1 2 3 70 6 15 13 17");
-    assert_eq!(many_paths.out, "NO 14\n");
-    assert!(many_paths
-        .err
-        .contains("more than 16384 paths, trying 32768\n"));
-    assert!(many_paths
-        .err
-        .contains("and no larger table within --memory 1\n"));
-    let many_events = run("--memory 1 2 8 76 12 21 561 753");
-    assert_eq!(
-        (many_events.status, many_events.out.as_str()),
-        (0, "NO 13\n")
-    );
-    assert!(many_events
-        .err
-        .contains("more than 6553 events, trying 13106\n"));
+fn what_an_order_needs_is_told_before_it_is_run() {
+    let paths = "14: there are more paths than the path";
+    let events = "13: there are more error events than the event";
+    let table_1 = "15852 events and 1940785 paths, 31 MiB";
+    let table_2 = "5079947 events and 882816 paths, 208 MiB";
+    for (arguments, no, needed, memory, question) in [
+        ("2 3 70 6 18 13 17", 14, table_1, 30, paths),
+        ("--of 0x61 2 3 70 6 18 13 17", 14, table_1, 1, paths),
+        ("--checklist 2 3 70 6 18 13 17", 14, table_1, 1, paths),
+        ("2 8 76 12 21 561 753", 14, table_2, 194, paths),
+        ("2 8 76 12 21 561 753", 13, table_2, 193, events),
+    ] {
+        let run = run(&format!("--memory {memory} {arguments}"));
+        let refused = (run.status, run.out.as_str());
+        assert_eq!(refused, (0, format!("NO {no}\n").as_str()), "{arguments}");
+        let told = refused_before(needed, memory, question);
+        assert_eq!(run.err, told, "{arguments}");
+    }
+    let all = run("2 8 128 12 64 561 753");
+    assert_eq!((all.status, all.out.as_str()), (0, "NO 13\n"));
+    let many = "18446744073709551615 or more";
+    let needed = format!("need {many} events and {many} paths, 985162418487296 MiB: more");
+    assert!(all.err.contains(&needed), "{}", all.err);
+}
+
+#[test]
+fn a_wrong_polynomial_comes_before_the_tables() {
+    let run = run("--memory 1 --of 0x42 2 3 70 6 18 13 17");
+    assert_eq!((run.status, run.out.as_str()), (0, "NO 11\n"));
+    assert!(!run.err.contains("--memory"));
 }
 
 #[test]

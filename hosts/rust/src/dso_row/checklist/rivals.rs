@@ -3,7 +3,6 @@
 
 use super::remainders::Remainders;
 use super::Paths;
-use crate::progress;
 use dohvrin::{Order, Refusal, Row};
 use std::io::{self, Write};
 
@@ -28,7 +27,7 @@ pub fn write(
     undetected: &[u64],
     paths: &Paths,
 ) -> io::Result<bool> {
-    let ranked = progress::during("ranking the rivals", || ranked(order, paths));
+    let ranked = ranked(order, paths);
     let best = &ranked[0].counts;
     let first = ranked.partition_point(|candidate| candidate.counts == *best);
     let (first, others) = ranked.split_at(first);
@@ -137,7 +136,7 @@ mod tests {
     #[test]
     fn a_wrong_choice_is_seen() {
         let order = Order::new(&[1, 3], 1, 4, 2, 6).unwrap();
-        let mut tables = Tables::within(1 << 20);
+        let mut tables = Tables::with_entries(5, 13);
         let other = tables.count(&order, 0x7);
         let found = tables.search(&order);
         let paths = Paths::of(&order, &tables);
