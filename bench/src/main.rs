@@ -1,5 +1,5 @@
-//! `bench`: the library and plain Rust of the same method side by side, as
-//! tables in Markdown. A benchmark and no test.
+//! `bench`: the library and plain Rust of the same method side by side, and
+//! whole runs of `dso-row`, as tables in Markdown. A benchmark and no test.
 //!
 //! The two take turns, so that both meet the same weather; a row has the median
 //! turn of either, and the median ratio of neighbouring turns with the middle
@@ -11,6 +11,7 @@ mod clock;
 mod lent;
 mod orders;
 mod plain;
+mod programs;
 mod small;
 mod turns;
 mod words;
@@ -21,6 +22,9 @@ use std::fmt::Debug;
 use std::process::ExitCode;
 use turns::{time, Turns};
 
+/// The two sides of most tables.
+const RACE: [&str; 2] = ["library", "plain Rust"];
+
 /// A call of one side, and its answer.
 type Call<T> = fn(&mut Lent) -> T;
 
@@ -29,6 +33,7 @@ fn main() -> ExitCode {
     match arguments.iter().map(String::as_str).collect::<Vec<_>>()[..] {
         [] => {
             searches(7);
+            runs(7);
             listings(7);
             collections(15, 101);
             calls(101);
@@ -37,6 +42,7 @@ fn main() -> ExitCode {
         }
         ["--quick"] => {
             searches(1);
+            runs(1);
             collections(1, 11);
             calls(11);
             growth(1, &BY_N, &BY_D[..3]);
@@ -51,12 +57,26 @@ fn main() -> ExitCode {
 }
 
 fn searches(turns: usize) {
-    head("The whole search", "paths");
+    head("The whole search", "paths", RACE);
     search(turns, name_of, &[TABLE_1, TABLE_2]);
 }
 
+/// Whole runs of `dso-row`.
+fn runs(turns: usize) {
+    let sides = ["dso-row", "the call"];
+    head("`dso-row`, beside the library's call alone", "paths", sides);
+    for order in [TABLE_1, TABLE_2] {
+        let times = programs::beside_the_call(turns, order);
+        row(&name_of(&order), order.paths, &times);
+    }
+    let sides = ["1 job", "2 jobs"];
+    head("A price list, by a clock on the wall", "orders", sides);
+    let times = programs::one_and_two_jobs(turns);
+    row("`bench/orders.txt`", programs::orders(), &times);
+}
+
 fn listings(turns: usize) {
-    head("Listing paths, its collection included", "paths");
+    head("Listing paths, its collection included", "paths", RACE);
     for order in [TABLE_1, TABLE_2] {
         let times = race(turns, order, lent::library_list, lent::plain_list);
         row(&name_of(&order), order.paths, &times);
@@ -65,7 +85,7 @@ fn listings(turns: usize) {
 
 /// So few turns of the large one, so many of the others.
 fn collections(few: usize, many: usize) {
-    head("Collecting error events", "events");
+    head("Collecting error events", "events", RACE);
     for (turns, order) in [(many, TABLE_1), (many, MIDDLE), (few, TABLE_2)] {
         let times = race(turns, order, lent::library_collect, lent::plain_collect);
         row(&name_of(&order), order.events, &times);
@@ -73,16 +93,16 @@ fn collections(few: usize, many: usize) {
 }
 
 fn calls(turns: usize) {
-    head("Calls on one word, 13, 17", "calls a turn");
+    head("Calls on one word, 13, 17", "calls a turn", RACE);
     for (name, times) in words::all(turns) {
         row(name, words::CALLS, &times);
     }
 }
 
 fn growth(turns: usize, by_n: &[Order], by_d: &[Order]) {
-    head("The whole search by N, 13, 17 · m=6 · d=14", "paths");
+    head("The whole search by N, 13, 17 · m=6 · d=14", "paths", RACE);
     search(turns, |order| format!("N={}", order.bits), by_n);
-    head("The whole search by d, 13, 17 · N=70 · m=6", "paths");
+    head("The whole search by d, 13, 17 · N=70 · m=6", "paths", RACE);
     search(turns, |order| format!("d={}", order.d), by_d);
 }
 
@@ -122,9 +142,9 @@ fn name_of(order: &Order) -> String {
     format!("{g1:o}, {g2:o} · N={bits} · m={m} · d={d}")
 }
 
-fn head(title: &str, size: &str) {
+fn head(title: &str, size: &str, [one, other]: [&str; 2]) {
     println!("\n{title}:\n");
-    println!("| | {size} | library | plain Rust | ratio |");
+    println!("| | {size} | {one} | {other} | ratio |");
     println!("|---|---|---|---|---|");
 }
 

@@ -10,25 +10,25 @@ pub fn time<T>(call: impl FnOnce() -> T) -> (f64, T) {
     ((nanoseconds() - start) as f64, answer)
 }
 
-/// The nanoseconds of both sides, turn by turn, the library's first.
+/// The nanoseconds of both sides, turn by turn.
 #[derive(Default)]
 pub struct Turns(Vec<(f64, f64)>);
 
 impl Turns {
-    pub fn push(&mut self, library: f64, plain: f64) {
-        self.0.push((library, plain));
+    pub fn push(&mut self, one: f64, other: f64) {
+        self.0.push((one, other));
     }
 
     /// The last cells of a row: the median of either side, and of the ratio of
     /// neighbouring turns with the middle half of them.
     pub fn cells(&self) -> String {
-        let library = self.quarters(|turn| turn.0)[1];
-        let plain = self.quarters(|turn| turn.1)[1];
+        let one = self.quarters(|turn| turn.0)[1];
+        let other = self.quarters(|turn| turn.1)[1];
         let [low, median, high] = self.quarters(|turn| turn.0 / turn.1);
         format!(
             "{} | {} | {median:.2} ({low:.2}-{high:.2})",
-            shown(library),
-            shown(plain)
+            shown(one),
+            shown(other)
         )
     }
 

@@ -15,20 +15,50 @@ const POLYNOMIAL: u64 = 0x180F;
 const DEGREE: u64 = 12;
 
 /// Each kind of call with its times.
-pub fn all(turns: usize) -> [(&'static str, Turns); 5] {
+pub fn all(turns: usize) -> [(&'static str, Turns); 7] {
+    let m = DEGREE as usize;
     let test = |word| dohvrin::test(128, DEGREE, black_box(POLYNOMIAL), word).ok();
-    let same = |word| plain::words::test(128, DEGREE as usize, black_box(POLYNOMIAL), word).ok();
-    let second = |word| link::divides(128, DEGREE as usize, black_box(POLYNOMIAL), word).ok();
+    let same = |word| plain::words::test(128, m, black_box(POLYNOMIAL), word).ok();
+    let second = |word| link::divides(128, m, black_box(POLYNOMIAL), word).ok();
     [
-        ("weigh, 70 bits", weigh(turns, 70)),
-        ("weigh, 128 bits", weigh(turns, 128)),
-        ("encode, 128 bits", encode(turns)),
         ("test, 128 bits, degree 12", race(turns, 128, test, same)),
         (
             "the same, beside the second tool's division by set bits",
             race(turns, 128, test, second),
         ),
+        ("strip, 128 bits, degree 12", strip(turns)),
+        ("append, 128 bits, degree 12", append(turns)),
+        ("weigh, 70 bits", weigh(turns, 70)),
+        ("weigh, 128 bits", weigh(turns, 128)),
+        ("encode, 128 bits", encode(turns)),
     ]
+}
+
+/// Of words that the polynomial divides.
+fn strip(turns: usize) -> Turns {
+    let m = DEGREE as usize;
+    let whole = |message| plain::words::append(128, m, POLYNOMIAL, message).unwrap_or(0);
+    race_over(
+        turns,
+        &words(128 - DEGREE)
+            .into_iter()
+            .map(whole)
+            .collect::<Vec<_>>(),
+        |word| dohvrin::strip(128, DEGREE, black_box(POLYNOMIAL), word).ok(),
+        |word| plain::words::strip(128, m, black_box(POLYNOMIAL), word).ok(),
+    )
+}
+
+fn append(turns: usize) -> Turns {
+    race(
+        turns,
+        128 - DEGREE,
+        |message| dohvrin::append(128, DEGREE, black_box(POLYNOMIAL), message).ok(),
+        |message| {
+            let m = DEGREE as usize;
+            plain::words::append(128, m, black_box(POLYNOMIAL), message).ok()
+        },
+    )
 }
 
 fn weigh(turns: usize, bits: u64) -> Turns {
@@ -73,20 +103,29 @@ fn code(bits: u64) -> Code<'static> {
     }
 }
 
-/// Both over the same words, turn by turn.
+/// Both over the same words of `bits` bits.
 fn race<T: Debug + PartialEq>(
     turns: usize,
     bits: u64,
+    library: impl FnMut(u128) -> T,
+    plain: impl FnMut(u128) -> T,
+) -> Turns {
+    race_over(turns, &words(bits), library, plain)
+}
+
+/// Both over the same words, turn by turn.
+fn race_over<T: Debug + PartialEq>(
+    turns: usize,
+    words: &[u128],
     mut library: impl FnMut(u128) -> T,
     mut plain: impl FnMut(u128) -> T,
 ) -> Turns {
-    let words = words(bits);
-    for &word in &words {
+    for &word in words {
         assert_eq!(library(word), plain(word), "{word:#x}");
     }
     let mut times = Turns::default();
     for _ in 0..turns {
-        times.push(turn(&words, &mut library), turn(&words, &mut plain));
+        times.push(turn(words, &mut library), turn(words, &mut plain));
     }
     times
 }

@@ -1,5 +1,6 @@
 //! The calls on one word: the same questions, then the same steps.
 
+use dohvrin::Stripped;
 use dso_ref::link::Code;
 use dso_ref::questions::{self, Refusal};
 
@@ -46,17 +47,43 @@ pub fn encode(code: Code, word: u128, output: &mut [u8]) -> Result<(), Refusal> 
     Ok(())
 }
 
-/// Whether the polynomial divides a word: the register takes a bit at a time.
+/// Whether the polynomial divides a word.
 pub fn test(length: usize, m: usize, p: u64, word: u128) -> Result<bool, Refusal> {
-    questions::length(1, length)?;
-    questions::degree(m, length)?;
-    questions::polynomial(p, m)?;
+    ask_check(length, m, p)?;
     questions::below_power(word, length)?;
-    let rest = (0..length).rev().fold(0, |r, t| {
+    Ok(remainder(length, m, p, word) == 0)
+}
+
+/// The message of a word, or its remainder.
+pub fn strip(length: usize, m: usize, p: u64, word: u128) -> Result<Stripped, Refusal> {
+    ask_check(length, m, p)?;
+    questions::below_power(word, length)?;
+    Ok(match remainder(length, m, p, word) {
+        0 => Stripped::Message(word >> m),
+        rest => Stripped::Damaged(rest),
+    })
+}
+
+/// The word of a message.
+pub fn append(length: usize, m: usize, p: u64, message: u128) -> Result<u128, Refusal> {
+    ask_check(length, m, p)?;
+    questions::below_power(message, length - m)?;
+    let shifted = message << m;
+    Ok(shifted | u128::from(remainder(length, m, p, shifted)))
+}
+
+/// The register takes a bit at a time, the highest first.
+fn remainder(length: usize, m: usize, p: u64, word: u128) -> u64 {
+    (0..length).rev().fold(0, |r, t| {
         let s = 2 * r + (word >> t & 1) as u64;
         s ^ ((s >> m) * p)
-    });
-    Ok(rest == 0)
+    })
+}
+
+fn ask_check(length: usize, m: usize, p: u64) -> Result<(), Refusal> {
+    questions::length(1, length)?;
+    questions::degree(m, length)?;
+    questions::polynomial(p, m)
 }
 
 fn ask(code: Code) -> Result<(), Refusal> {

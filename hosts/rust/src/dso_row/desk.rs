@@ -42,6 +42,7 @@ impl Desk {
             let made = self.lend(order, entries, notes);
             return made.unwrap_or_else(|no_room| self.refuse(no_room, notes));
         }
+        notes(Note::Now("counting events and paths".to_string()));
         if let Some(refusal) = self.refused_before(order) {
             return Made::refused(refusal);
         }
@@ -70,7 +71,8 @@ impl Desk {
     /// What the library refuses before it asks about the tables: for an order,
     /// this can be the polynomial alone.
     fn refused_before(&self, order: &Order) -> Option<Refusal> {
-        let refusal = Tables::with_entries(0, 0).count(order, self.of?).err()?;
+        let polynomial = self.of?;
+        let refusal = Tables::with_entries(0, 0).count(order, polynomial).err()?;
         (refusal != Refusal::Events).then_some(refusal)
     }
 
@@ -103,7 +105,8 @@ impl Desk {
             needed: entries,
             limit,
         };
-        let bytes = usize::try_from(entries.within(limit)?.bytes()).map_err(|_| no_room)?;
+        // Not more than the limit, which is of this type.
+        let bytes = entries.within(limit)?.bytes() as usize;
         let share = Some(self.memory.take(bytes));
         let mut tables = Tables::of(entries).ok_or(no_room)?;
         notes(Note::Now(format!("tables of {entries}")));
@@ -201,7 +204,7 @@ mod tests {
 
     #[test]
     fn a_wrong_count_within_too_little_memory() {
-        // 48,965 paths are 765 KiB, the 1,134 events 45 more.
+        // 1 MiB takes 55,536 paths beside 4,000 events; there are more.
         let (order, desk) = (table_1(15), desk(None, 1));
         let wrong = Entries {
             events: 4000,
