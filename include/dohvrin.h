@@ -27,6 +27,10 @@
   turns a message of K = N - m bits into a word of N bits: the message stands
   in the upper K bits, its remainder in the lower m.
 
+  An order is n, v, N, m, d and the generators, in one struct that the calls
+  take by value. Any numbers in it are answered. Of its four generators a call
+  looks at the first n, and at none where n is not 2 to 4.
+
   The best polynomial of degree m is the one under which the fewest paths pass
   the check unseen: of two, the one with fewer undetected paths at the lowest
   weight where they differ. Its row is the order, how many events and paths
@@ -42,18 +46,22 @@
       static uint8_t text[DOHVRIN_TEXT];
 
       int main(void) {
-          const uint64_t generators[2] = {01, 03};  // octal, as 0 leads in C
+          const struct dohvrin_order order = {.n = 2, .v = 1, .bits = 4, .m = 2, .d = 6,
+                                              .g1 = 01, .g2 = 03};  // octal, as 0 leads in C
+          const struct dohvrin_tables tables = {
+              .events = events, .event_entries = 512,
+              .paths = paths, .path_numbers = 2 * 2048,
+              .plain = plain, .plain_entries = 64,
+              .undetected = undetected, .undetected_entries = 64,
+              .work = work, .work_numbers = DOHVRIN_WORK};
+          struct dohvrin_row row = dohvrin_search_in(order, tables);
           struct dohvrin_answer written;
-          struct dohvrin_row row = dohvrin_search(generators, 2, 1, 4, 2, 6,
-                                                  events, 512, paths, 2 * 2048, plain, 64,
-                                                  undetected, 64, work, DOHVRIN_WORK);
 
           if (row.refusal != 0)
               written = dohvrin_refusal_text(row.refusal, row.left, text, DOHVRIN_TEXT);
           else
-              written = dohvrin_row_text(generators, 2, 1, 4, 2, 6, row.events, row.paths,
-                                         row.polynomial, plain, 64, undetected, 64,
-                                         text, DOHVRIN_TEXT);
+              written = dohvrin_row_text(order, row.events, row.paths, row.polynomial,
+                                         plain, 64, undetected, 64, text, DOHVRIN_TEXT);
           fwrite(text, 1, written.value, stdout);
           return 0;
       }
@@ -75,16 +83,19 @@
   --------
   Every call answers every input. It asks the questions that concern what it
   takes, in the order of their numbers, and the first no is the refusal; 0
-  says that there was none. A refused call has no other result: the rest of
-  its answer is 0, and what was lent to it is as it was; after 13 and 14, it
-  is 0. Only 15 says more, and leaves more: see dohvrin_search.
+  says that there was none. Of an order, weigh and encode do not take m and d,
+  collect and list do not take m: there they may be anything. The one exception
+  is row_text, which asks only 3, 7 and 10: a row is printed as it is told, for
+  an order that a call has accepted before. A refused call has no other result:
+  the rest of its answer is 0, and what was lent to it is as it was; after 13
+  and 14, it is 0. Only 15 says more, and leaves more: see dohvrin_search.
 
       no.  question                                                 asked by
        1   Are there 2 bytes, and does the length in them equal
            the number of bytes after them?                          read_order
        2   Is there a version byte, and is it 1?                    read_order
-       3   Are there 2 to 4 generators? (In a record: is n there    weigh encode
-           and from 2 to 4, and is the length 6 + 2n?)              collect list
+       3   Are there 2 to 4 generators: is n from 2 to 4? (In a     weigh encode
+           record: is n there, too, and is the length 6 + 2n?)      collect list
                                                                     search count
                                                                     row_text
                                                                     read_order
@@ -127,12 +138,12 @@
 
   What the library counts on
   --------------------------
-  Numbers may be anything. Pointers and counts are the caller's promise, as C
-  has no means to check them: `count` elements can be read from the pointer
-  (written, for an output, a table or a work area), it is aligned as its type
-  asks, what is written overlaps nothing else that the call takes, and no other
-  thread writes any of it meanwhile. Where the count is 0 nothing is read or
-  written.
+  Numbers may be anything. Pointers and the sizes after them are the caller's
+  promise, as C has no means to check them: so many elements can be read from
+  the pointer (written, for an output, a table or a work area), it is aligned as
+  its type asks, what is written overlaps nothing else that the call takes, and
+  no other thread writes any of it meanwhile. Where the size is 0 nothing is
+  read or written.
 
   The library keeps nothing between calls, allocates nothing, and needs
   nothing of the C library but memset and memcpy; calls may run at the same
@@ -157,15 +168,20 @@ struct dohvrin_answer {
     uint64_t high;    /* and its bits 64 to 127 */
 };
 
-/* An order as its record gives it; all but the refusal is 0 where there is one. */
+/* An order, as the calls take it. The comments say what no question refuses. */
 struct dohvrin_order {
-    uint64_t refusal;        /* the number of the question that said no, or 0 */
     uint64_t n;              /* how many generators, 2 to 4 */
     uint64_t v;              /* the memory, 1 to 8 */
     uint64_t bits;           /* N, the bits of a word, v to 128 */
     uint64_t m;              /* the check degree, 1 to 12 and below N */
     uint64_t d;              /* the threshold on weights, 1 to 64 */
-    uint64_t g1, g2, g3, g4; /* the generators, the first first; 0 past the n-th */
+    uint64_t g1, g2, g3, g4; /* the generators; those past the n-th do not matter */
+};
+
+/* An order as its record gives it, or a refusal and an order of zeros. */
+struct dohvrin_order_answer {
+    uint64_t refusal;           /* the number of the question that said no, or 0 */
+    struct dohvrin_order order; /* generators past the n-th are 0 */
 };
 
 /* An entry of an event table. A table's entries after its events are all 0. */
@@ -234,65 +250,58 @@ struct dohvrin_answer dohvrin_test(uint64_t bits, uint64_t m, uint64_t polynomia
                                    uint64_t low, uint64_t high);
 
 /*
-  Weighs a word of `bits` bits under the code of `count` generators and memory
-  v. Accepted: value is the weight, 0 to n times N. Refusals: 3 (count), 4, 5,
-  8, 9, 12 (the word is not below 2^bits). The generators are only read, and
-  only where count is 2 to 4; that the pointer has `count` of them cannot be
-  checked.
+  Weighs a word of N bits under the order's code; m and d do not matter.
+  Accepted: value is the weight, 0 to n times N. Refusals: 3, 4, 5, 8, 9, 12
+  (the word is not below 2^N).
 */
-struct dohvrin_answer dohvrin_weigh(const uint64_t *generators, size_t count, uint64_t v,
-                                    uint64_t bits, uint64_t low, uint64_t high);
+struct dohvrin_answer dohvrin_weigh(struct dohvrin_order order, uint64_t low, uint64_t high);
 
 /*
-  Encodes a word of `bits` bits under the code of `count` generators and memory
-  v. Accepted: the answer is 0 and the output holds the codeword, n bits for
-  each step from the word's bit 0 on, the first generator first, each bit a
-  byte 0 or 1; the bytes from n times N on, up to `size`, are 0. The answer is
-  else the number of the refusal, and the output is as it was: 3 (count), 4, 5,
-  8, 9, 10 (size is below n times N), 12 (the word is not below 2^bits). That
-  the pointers have `count` generators and `size` bytes, and that the output
-  does not overlap the generators, cannot be checked.
+  Encodes a word of N bits under the order's code; m and d do not matter.
+  Accepted: the answer is 0 and the output holds the codeword, n bits for each
+  step from the word's bit 0 on, the first generator first, each bit a byte 0
+  or 1; the bytes from n times N on, up to `size`, are 0. The answer is else
+  the number of the refusal, and the output is as it was: 3, 4, 5, 8, 9, 10
+  (size is below n times N), 12 (the word is not below 2^N). That the pointer
+  has `size` bytes cannot be checked.
 */
-uint64_t dohvrin_encode(const uint64_t *generators, size_t count, uint64_t v, uint64_t bits,
-                        uint64_t low, uint64_t high, uint8_t *output, size_t size);
+uint64_t dohvrin_encode(struct dohvrin_order order, uint64_t low, uint64_t high,
+                        uint8_t *output, size_t size);
 
 /*
-  Collects the events of weight below d of the code of `count` generators and
-  memory v, on walks of at most `bits` steps. Accepted: value is their number;
-  the table has them first, ordered by state, length and input number, its
-  entries after them are 0, and the work area is 0 throughout. Refusal 13,
-  there are more events than entries: table and work area are 0 throughout.
-  Other refusals: 3 (count), 4, 5, 7, 8, 9, 10 (size is below DOHVRIN_WORK);
-  then table and work area are as they were. What they held before the call
-  does not matter. That the pointers have `count` generators, `entries` events
-  and `size` numbers, and that table and work area overlap neither each other
-  nor the generators, cannot be checked.
+  Collects the events of weight below d of the order's code, on walks of at
+  most N steps; m does not matter. Accepted: value is their number; the table
+  has them first, ordered by state, length and input number, its entries after
+  them are 0, and the work area is 0 throughout. Refusal 13, there are more
+  events than entries: table and work area are 0 throughout. Other refusals: 3,
+  4, 5, 7, 8, 9, 10 (work_numbers is below DOHVRIN_WORK); then table and work
+  area are as they were. What they held before the call does not matter. That
+  the pointers have as many events and numbers as is said, and that table and
+  work area do not overlap, cannot be checked.
 */
-struct dohvrin_answer dohvrin_collect(const uint64_t *generators, size_t count, uint64_t v,
-                                      uint64_t bits, uint64_t d, struct dohvrin_event *table,
-                                      size_t entries, uint64_t *work, size_t size);
+struct dohvrin_answer dohvrin_collect(struct dohvrin_order order, struct dohvrin_event *events,
+                                      size_t event_entries, uint64_t *work,
+                                      size_t work_numbers);
 
 /*
-  Lists the paths of weight below d of the code of `count` generators and
-  memory v, words of `bits` bits, with the events that they are joined of.
-  Accepted: the answer says how many there are of both. The path table has two
-  numbers a path, its low half first: the paths of the least weight come first,
-  and those of one weight in increasing order; the numbers after them are 0,
-  and so is the last one of an odd table. The counts say how many paths there
-  are of each weight from 0 to d - 1, and are 0 after that. The event table is
-  as dohvrin_collect leaves it, and the work area is 0 throughout. Refusals 13,
+  Lists the paths of weight below d of the order's code, words of N bits, with
+  the events that they are joined of; m does not matter. Accepted: the answer
+  says how many there are of both. The path table has two numbers a path, its
+  low half first: the paths of the least weight come first, and those of one
+  weight in increasing order; the numbers after them are 0, and so is the last
+  one of an odd table. The plain counts say how many paths there are of each
+  weight from 0 to d - 1, and are 0 after that. The event table is as
+  dohvrin_collect leaves it, and the work area is 0 throughout. Refusals 13,
   there are more events than entries, and 14, there are more paths than pairs
-  of numbers: all four tables are 0 throughout. Other refusals: 3 (count), 4,
-  5, 7, 8, 9, 10 (count_entries is below d, or work_numbers is below
-  DOHVRIN_WORK); then all four are as they were. What they held before the call
-  does not matter. That the pointers have `count` generators and as many
-  entries and numbers as is said, and that none of the tables overlaps another
-  or the generators, cannot be checked.
+  of numbers: all four tables are 0 throughout. Other refusals: 3, 4, 5, 7, 8,
+  9, 10 (plain_entries is below d, or work_numbers is below DOHVRIN_WORK); then
+  all four are as they were. What they held before the call does not matter.
+  That the pointers have as many entries and numbers as is said, and that none
+  of the tables overlaps another, cannot be checked.
 */
-struct dohvrin_listing dohvrin_list(const uint64_t *generators, size_t count, uint64_t v,
-                                    uint64_t bits, uint64_t d, struct dohvrin_event *events,
+struct dohvrin_listing dohvrin_list(struct dohvrin_order order, struct dohvrin_event *events,
                                     size_t event_entries, uint64_t *paths, size_t path_numbers,
-                                    uint64_t *counts, size_t count_entries, uint64_t *work,
+                                    uint64_t *plain, size_t plain_entries, uint64_t *work,
                                     size_t work_numbers);
 
 /*
@@ -309,28 +318,24 @@ struct dohvrin_part dohvrin_part(const uint64_t *paths, size_t path_numbers,
                                  const uint64_t *counts, size_t count_entries, uint64_t weight);
 
 /*
-  Searches for the best check polynomial of degree m for words of `bits` bits
-  of the code of `count` generators and memory v, by the paths of weight below
-  d. Accepted: the answer has the polynomial, and says how many events and
-  paths there are. Event table, path table and work area are as dohvrin_list
-  leaves them, and the plain counts are its counts. The undetected counts say
-  how many of the paths of each weight from 0 to d - 1 the polynomial divides,
-  and are 0 after that. Refusal 15, several are best: `left` says how many, the
-  rest of the answer is 0; the tables and plain counts are as an accepted call
-  leaves them, and the undetected counts are those that the best ones share.
-  Refusals 13, there are more events than entries, and 14, there are more paths
-  than pairs of numbers: all five are 0 throughout. Other refusals: 3 (count),
-  4 to 9, 10 (plain_entries or undetected_entries is below d, or work_numbers
-  is below DOHVRIN_WORK); then all five are as they were. What they held before
-  the call does not matter. That the pointers have `count` generators and as
-  many entries and numbers as is said, and that none of the tables overlaps
-  another or the generators, cannot be checked.
+  Searches for the order's best check polynomial: of degree m, for words of N
+  bits, by the paths of weight below d. Accepted: the answer has the polynomial,
+  and says how many events and paths there are. Event table, path table, plain
+  counts and work area are as dohvrin_list leaves them. The undetected counts
+  say how many of the paths of each weight from 0 to d - 1 the polynomial
+  divides, and are 0 after that. Refusal 15, several are best: `left` says how
+  many, the rest of the answer is 0; the tables and plain counts are as an
+  accepted call leaves them, and the undetected counts are those that the best
+  ones share. Refusals 13, there are more events than entries, and 14, there are
+  more paths than pairs of numbers: all five are 0 throughout. Other refusals: 3
+  to 9, 10 (plain_entries or undetected_entries is below d, or work_numbers is
+  below DOHVRIN_WORK); then all five are as they were. What they held before the
+  call does not matter. That the pointers have as many entries and numbers as is
+  said, and that none of the tables overlaps another, cannot be checked.
 */
-struct dohvrin_row dohvrin_search(const uint64_t *generators, size_t count, uint64_t v,
-                                  uint64_t bits, uint64_t m, uint64_t d,
-                                  struct dohvrin_event *events, size_t event_entries,
-                                  uint64_t *paths, size_t path_numbers, uint64_t *plain,
-                                  size_t plain_entries, uint64_t *undetected,
+struct dohvrin_row dohvrin_search(struct dohvrin_order order, struct dohvrin_event *events,
+                                  size_t event_entries, uint64_t *paths, size_t path_numbers,
+                                  uint64_t *plain, size_t plain_entries, uint64_t *undetected,
                                   size_t undetected_entries, uint64_t *work,
                                   size_t work_numbers);
 
@@ -341,8 +346,7 @@ struct dohvrin_row dohvrin_search(const uint64_t *generators, size_t count, uint
   this polynomial's. Refusals are those of dohvrin_search, and leave the same,
   with 11 (the polynomial) after 10 and without 15.
 */
-struct dohvrin_listing dohvrin_count(const uint64_t *generators, size_t count, uint64_t v,
-                                     uint64_t bits, uint64_t m, uint64_t d, uint64_t polynomial,
+struct dohvrin_listing dohvrin_count(struct dohvrin_order order, uint64_t polynomial,
                                      struct dohvrin_event *events, size_t event_entries,
                                      uint64_t *paths, size_t path_numbers, uint64_t *plain,
                                      size_t plain_entries, uint64_t *undetected,
@@ -354,15 +358,15 @@ struct dohvrin_listing dohvrin_count(const uint64_t *generators, size_t count, u
   octal; EVENTS; PATHS; for each weight from 0 to d - 1 a line A with the weight
   and both counts; CRC with the polynomial in hexadecimal. Accepted: value is
   the number of its bytes, which the text begins with; each line ends with a
-  line feed, and the bytes after the last are 0. The numbers may be any, and
-  nothing is computed: only 3 (count), 7, and 10 (plain_entries or
-  undetected_entries is below d, or size is below DOHVRIN_TEXT) are refused,
-  and leave the text as it was. Generators and counts are only read; that the
-  pointers have as many as is said, and that the text overlaps none of them,
-  cannot be checked.
+  line feed, and the bytes after the last are 0. Nothing is computed, and the
+  row is printed as it is told, for an order that a call has accepted before:
+  of all questions only 3, 7, and 10 (plain_entries or undetected_entries is
+  below d, or size is below DOHVRIN_TEXT) are asked, and their refusals leave
+  the text as it was. The other numbers may be any. The counts are only read;
+  that the pointers have as many as is said, and that the text overlaps none of
+  them, cannot be checked.
 */
-struct dohvrin_answer dohvrin_row_text(const uint64_t *generators, size_t count, uint64_t v,
-                                       uint64_t bits, uint64_t m, uint64_t d, uint64_t events,
+struct dohvrin_answer dohvrin_row_text(struct dohvrin_order order, uint64_t events,
                                        uint64_t paths, uint64_t polynomial,
                                        const uint64_t *plain, size_t plain_entries,
                                        const uint64_t *undetected, size_t undetected_entries,
@@ -381,11 +385,67 @@ struct dohvrin_answer dohvrin_refusal_text(uint64_t number, uint64_t left, uint8
 /*
   Reads an order from a record of `size` bytes: the length of what follows it
   in 2 bytes, the higher first; version 1; n, v, N, m and d, a byte each; n
-  generators of 2 bytes, the higher first. Accepted: the order, which then
-  suits the calls above. Refusals: 1 to 9, in their order. The bytes are only
+  generators of 2 bytes, the higher first. Accepted: the order, in which the
+  calls above find nothing to refuse. Refusals: 1 to 9, in their order. The bytes are only
   read; that the pointer has `size` of them cannot be checked.
 */
-struct dohvrin_order dohvrin_read_order(const uint8_t *bytes, size_t size);
+struct dohvrin_order_answer dohvrin_read_order(const uint8_t *bytes, size_t size);
+
+/*
+  What is lent to the calls that list, in one struct. A call takes what it uses:
+  collect needs events and work alone, list needs no undetected counts, and what
+  a call does not take may be NULL and 0.
+*/
+struct dohvrin_tables {
+    struct dohvrin_event *events;
+    size_t event_entries;
+    uint64_t *paths; /* two numbers a path */
+    size_t path_numbers;
+    uint64_t *plain; /* how many paths there are of each weight */
+    size_t plain_entries;
+    uint64_t *undetected; /* how many of them the polynomial divides */
+    size_t undetected_entries;
+    uint64_t *work;
+    size_t work_numbers;
+};
+
+/* dohvrin_collect in these tables. */
+static inline struct dohvrin_answer dohvrin_collect_in(struct dohvrin_order order,
+                                                       struct dohvrin_tables tables)
+{
+    return dohvrin_collect(order, tables.events, tables.event_entries, tables.work,
+                           tables.work_numbers);
+}
+
+/* dohvrin_list in these tables. */
+static inline struct dohvrin_listing dohvrin_list_in(struct dohvrin_order order,
+                                                     struct dohvrin_tables tables)
+{
+    return dohvrin_list(order, tables.events, tables.event_entries, tables.paths,
+                        tables.path_numbers, tables.plain, tables.plain_entries, tables.work,
+                        tables.work_numbers);
+}
+
+/* dohvrin_search in these tables. */
+static inline struct dohvrin_row dohvrin_search_in(struct dohvrin_order order,
+                                                   struct dohvrin_tables tables)
+{
+    return dohvrin_search(order, tables.events, tables.event_entries, tables.paths,
+                          tables.path_numbers, tables.plain, tables.plain_entries,
+                          tables.undetected, tables.undetected_entries, tables.work,
+                          tables.work_numbers);
+}
+
+/* dohvrin_count in these tables. */
+static inline struct dohvrin_listing dohvrin_count_in(struct dohvrin_order order,
+                                                      uint64_t polynomial,
+                                                      struct dohvrin_tables tables)
+{
+    return dohvrin_count(order, polynomial, tables.events, tables.event_entries, tables.paths,
+                         tables.path_numbers, tables.plain, tables.plain_entries,
+                         tables.undetected, tables.undetected_entries, tables.work,
+                         tables.work_numbers);
+}
 
 #ifdef __cplusplus
 }

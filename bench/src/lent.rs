@@ -49,7 +49,7 @@ impl Lent {
 
 pub fn library_collect(lent: &mut Lent) -> Option<usize> {
     let (o, events) = (&lent.order, &mut lent.events);
-    dohvrin::collect(o.code(), o.d, events, &mut lent.work).ok()
+    dohvrin::collect(o.given(), events, &mut lent.work).ok()
 }
 
 pub fn plain_collect(lent: &mut Lent) -> Option<usize> {
@@ -61,7 +61,7 @@ pub fn library_list(lent: &mut Lent) -> Option<usize> {
     let o = &lent.order;
     let (events, paths) = (&mut lent.events, &mut lent.numbers);
     let (plain, work) = (&mut lent.plain, &mut lent.work);
-    let listed = dohvrin::list(o.code(), o.d, events, paths, plain, work);
+    let listed = dohvrin::list(o.given(), events, paths, plain, work);
     listed.ok().map(|Listed { paths, .. }| paths)
 }
 
@@ -87,7 +87,7 @@ pub fn library_search(lent: &mut Lent) -> Option<(usize, u64)> {
         undetected: &mut lent.undetected,
         work: &mut lent.work,
     };
-    match dohvrin::search(o.code(), o.m, o.d, all) {
+    match dohvrin::search(o.given(), all) {
         Ok(Searched::Found(found)) => Some((found.paths, found.polynomial)),
         _ => None,
     }

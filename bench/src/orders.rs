@@ -1,6 +1,6 @@
 //! The orders that are timed, and how many events and paths they have.
 
-use dohvrin::Code;
+use dohvrin::AnyOrder;
 
 #[derive(Clone, Copy)]
 pub struct Order {
@@ -14,12 +14,9 @@ pub struct Order {
 }
 
 impl Order {
-    pub fn code(&self) -> Code<'_> {
-        Code {
-            generators: &self.generators,
-            v: self.v,
-            bits: self.bits,
-        }
+    /// The order as the library takes it.
+    pub fn given(&self) -> AnyOrder {
+        AnyOrder::new(&self.generators, self.v, self.bits, self.m, self.d)
     }
 }
 

@@ -2,6 +2,7 @@
 
 use crate::plain;
 use crate::turns::{time, Turns};
+use dohvrin::AnyOrder;
 use dso_ref::link::{self, Code};
 use std::fmt::Debug;
 use std::hint::black_box;
@@ -87,11 +88,15 @@ fn encode(turns: usize) -> Turns {
 }
 
 /// The code as the library takes it, and as the second tool does.
-fn given(bits: u64) -> dohvrin::Code<'static> {
-    dohvrin::Code {
-        generators: black_box(&GENERATORS),
+fn given(bits: u64) -> AnyOrder {
+    let [g1, g2] = *black_box(&GENERATORS);
+    AnyOrder {
+        n: 2,
         v: MEMORY,
         bits,
+        m: DEGREE,
+        d: 1,
+        generators: [g1, g2, 0, 0],
     }
 }
 

@@ -16,8 +16,10 @@
 /* The layout that the library was compiled with. */
 _Static_assert(sizeof(struct dohvrin_answer) == 32, "four 64-bit numbers");
 _Static_assert(offsetof(struct dohvrin_answer, high) == 24, "without gaps");
-_Static_assert(sizeof(struct dohvrin_order) == 80, "ten 64-bit numbers");
-_Static_assert(offsetof(struct dohvrin_order, g4) == 72, "without gaps");
+_Static_assert(sizeof(struct dohvrin_order) == 72, "nine 64-bit numbers");
+_Static_assert(offsetof(struct dohvrin_order, g4) == 64, "without gaps");
+_Static_assert(sizeof(struct dohvrin_order_answer) == 80, "ten 64-bit numbers");
+_Static_assert(offsetof(struct dohvrin_order_answer, order) == 8, "without gaps");
 _Static_assert(sizeof(struct dohvrin_event) == 40, "five 64-bit numbers");
 _Static_assert(offsetof(struct dohvrin_event, high) == 32, "without gaps");
 _Static_assert(sizeof(struct dohvrin_listing) == 24, "three 64-bit numbers");
@@ -36,6 +38,13 @@ static uint64_t counts[64];
 static uint64_t undetected[64];
 static uint64_t work[DOHVRIN_WORK];
 static uint8_t text[DOHVRIN_TEXT];
+static const struct dohvrin_tables tables = {
+    .events = events, .event_entries = ENTRIES,
+    .paths = paths, .path_numbers = 2 * PATHS,
+    .plain = counts, .plain_entries = 64,
+    .undetected = undetected, .undetected_entries = 64,
+    .work = work, .work_numbers = DOHVRIN_WORK,
+};
 
 static const char *const records[] = {
     "000A01020103020500010003", /* n 2, v 1, N 3, m 2, d 5, generators 1, 3 */
@@ -67,29 +76,26 @@ static void print_word(const char *name, uint64_t low, uint64_t high)
 }
 
 /* Weight and codeword of a word under the order's code. */
-static void print_code(const struct dohvrin_order *order, uint64_t low, uint64_t high)
+static void print_code(struct dohvrin_order order, uint64_t low, uint64_t high)
 {
-    const uint64_t generators[4] = {order->g1, order->g2, order->g3, order->g4};
-    size_t n = (size_t)order->n;
     uint8_t output[MOST_OUTPUT];
-    struct dohvrin_answer weight = dohvrin_weigh(generators, n, order->v, order->bits, low, high);
-    uint64_t refusal = dohvrin_encode(generators, n, order->v, order->bits, low, high,
-                                      output, sizeof output);
+    struct dohvrin_answer weight = dohvrin_weigh(order, low, high);
+    uint64_t refusal = dohvrin_encode(order, low, high, output, sizeof output);
 
     if (weight.refusal != 0 || refusal != 0) {
         printf("  refused: %" PRIu64 " %" PRIu64 "\n", weight.refusal, refusal);
         return;
     }
     printf("  weight   %" PRIu64 "\n  codeword ", weight.value);
-    for (size_t i = 0; i < n * order->bits; i++)
+    for (size_t i = 0; i < order.n * order.bits; i++)
         putchar('0' + output[i]);
     putchar('\n');
 }
 
-static void print_stripped(const struct dohvrin_order *order, uint64_t polynomial,
+static void print_stripped(struct dohvrin_order order, uint64_t polynomial,
                            uint64_t low, uint64_t high)
 {
-    struct dohvrin_answer a = dohvrin_strip(order->bits, order->m, polynomial, low, high);
+    struct dohvrin_answer a = dohvrin_strip(order.bits, order.m, polynomial, low, high);
 
     if (a.refusal != 0)
         printf("  refused: %" PRIu64 "\n", a.refusal);
@@ -100,19 +106,19 @@ static void print_stripped(const struct dohvrin_order *order, uint64_t polynomia
 }
 
 /* x^m + x + 1, or x + 1 for m = 1. */
-static uint64_t polynomial_of(const struct dohvrin_order *order)
+static uint64_t polynomial_of(struct dohvrin_order order)
 {
-    return UINT64_C(1) << order->m | (order->m == 1 ? 1 : 3);
+    return UINT64_C(1) << order.m | (order.m == 1 ? 1 : 3);
 }
 
 /* The all-ones message of the order's K bits under that polynomial. */
-static void run_link(const struct dohvrin_order *order)
+static void run_link(struct dohvrin_order order)
 {
-    uint64_t k = order->bits - order->m;
+    uint64_t k = order.bits - order.m;
     uint64_t low = k < 64 ? (UINT64_C(1) << k) - 1 : UINT64_MAX;
     uint64_t high = k > 64 ? (UINT64_C(1) << (k - 64)) - 1 : 0;
     uint64_t polynomial = polynomial_of(order);
-    struct dohvrin_answer word = dohvrin_append(order->bits, order->m, polynomial, low, high);
+    struct dohvrin_answer word = dohvrin_append(order.bits, order.m, polynomial, low, high);
 
     if (word.refusal != 0) {
         printf("  refused: %" PRIu64 "\n", word.refusal);
@@ -126,11 +132,9 @@ static void run_link(const struct dohvrin_order *order)
 }
 
 /* The number of the order's events, and the first SHOWN of them. */
-static void print_events(const struct dohvrin_order *order)
+static void print_events(struct dohvrin_order order)
 {
-    const uint64_t generators[4] = {order->g1, order->g2, order->g3, order->g4};
-    struct dohvrin_answer a = dohvrin_collect(generators, (size_t)order->n, order->v, order->bits,
-                                              order->d, events, ENTRIES, work, DOHVRIN_WORK);
+    struct dohvrin_answer a = dohvrin_collect_in(order, tables);
 
     if (a.refusal != 0) {
         printf("  refused: %" PRIu64 "\n", a.refusal);
@@ -146,12 +150,9 @@ static void print_events(const struct dohvrin_order *order)
 }
 
 /* Plain counts, and the first SHOWN of the heaviest paths. 14: there are more than PATHS. */
-static void print_paths(const struct dohvrin_order *order)
+static void print_paths(struct dohvrin_order order)
 {
-    const uint64_t generators[4] = {order->g1, order->g2, order->g3, order->g4};
-    struct dohvrin_listing a = dohvrin_list(generators, (size_t)order->n, order->v, order->bits,
-                                            order->d, events, ENTRIES, paths, 2 * PATHS,
-                                            counts, 64, work, DOHVRIN_WORK);
+    struct dohvrin_listing a = dohvrin_list_in(order, tables);
     uint64_t heaviest = 0;
     struct dohvrin_part part;
 
@@ -160,7 +161,7 @@ static void print_paths(const struct dohvrin_order *order)
         return;
     }
     printf("  paths    %" PRIu64 "\n  counts  ", a.paths);
-    for (uint64_t w = 0; w < order->d; w++) {
+    for (uint64_t w = 0; w < order.d; w++) {
         printf(" %" PRIu64, counts[w]);
         if (counts[w] != 0)
             heaviest = w;
@@ -175,40 +176,31 @@ static void print_paths(const struct dohvrin_order *order)
 }
 
 /* How many paths of each weight pass the check of that polynomial. */
-static void print_undetected(const struct dohvrin_order *order)
+static void print_undetected(struct dohvrin_order order)
 {
-    const uint64_t generators[4] = {order->g1, order->g2, order->g3, order->g4};
     uint64_t polynomial = polynomial_of(order);
-    struct dohvrin_listing a = dohvrin_count(generators, (size_t)order->n, order->v, order->bits,
-                                             order->m, order->d, polynomial, events, ENTRIES,
-                                             paths, 2 * PATHS, counts, 64, undetected, 64,
-                                             work, DOHVRIN_WORK);
+    struct dohvrin_listing a = dohvrin_count_in(order, polynomial, tables);
 
     if (a.refusal != 0) {
         printf("  refused: %" PRIu64 "\n", a.refusal);
         return;
     }
     printf("  unseen under 0x%" PRIX64 ":", polynomial);
-    for (uint64_t w = 0; w < order->d; w++)
+    for (uint64_t w = 0; w < order.d; w++)
         printf(" %" PRIu64, undetected[w]);
     putchar('\n');
 }
 
 /* The row of the best polynomial, or the refusal. 15: several are best. */
-static void print_row(const struct dohvrin_order *order)
+static void print_row(struct dohvrin_order order)
 {
-    const uint64_t generators[4] = {order->g1, order->g2, order->g3, order->g4};
-    size_t n = (size_t)order->n;
-    struct dohvrin_row row = dohvrin_search(generators, n, order->v, order->bits, order->m,
-                                            order->d, events, ENTRIES, paths, 2 * PATHS,
-                                            counts, 64, undetected, 64, work, DOHVRIN_WORK);
+    struct dohvrin_row row = dohvrin_search_in(order, tables);
     struct dohvrin_answer written;
 
     if (row.refusal != 0)
         written = dohvrin_refusal_text(row.refusal, row.left, text, sizeof text);
     else
-        written = dohvrin_row_text(generators, n, order->v, order->bits, order->m, order->d,
-                                   row.events, row.paths, row.polynomial, counts, 64,
+        written = dohvrin_row_text(order, row.events, row.paths, row.polynomial, counts, 64,
                                    undetected, 64, text, sizeof text);
     fwrite(text, 1, written.value, stdout);
 }
@@ -217,25 +209,27 @@ static int run_record(const char *hex)
 {
     uint8_t bytes[MOST_BYTES];
     size_t size;
+    struct dohvrin_order_answer read;
     struct dohvrin_order order;
 
     if (!read_hex(hex, bytes, &size)) {
         fprintf(stderr, "%s: up to %d bytes in hexadecimal are asked for\n", hex, MOST_BYTES);
         return 0;
     }
-    order = dohvrin_read_order(bytes, size);
-    if (order.refusal != 0) {
-        printf("refused: %" PRIu64 "\n", order.refusal);
+    read = dohvrin_read_order(bytes, size);
+    if (read.refusal != 0) {
+        printf("refused: %" PRIu64 "\n", read.refusal);
         return 1;
     }
+    order = read.order;
     printf("order: n %" PRIu64 ", v %" PRIu64 ", N %" PRIu64 ", m %" PRIu64 ", d %" PRIu64
            ", generators %" PRIo64 " %" PRIo64 " %" PRIo64 " %" PRIo64 "\n",
            order.n, order.v, order.bits, order.m, order.d, order.g1, order.g2, order.g3, order.g4);
-    run_link(&order);
-    print_events(&order);
-    print_paths(&order);
-    print_undetected(&order);
-    print_row(&order);
+    run_link(order);
+    print_events(order);
+    print_paths(order);
+    print_undetected(order);
+    print_row(order);
     return 1;
 }
 

@@ -2,16 +2,13 @@
 // What is `pub` here is for the crate above; docs/DECISIONS.md lists it as internal.
 ghost use mathlib.Core.Path.{_≡_};
 ghost use Prim.Native.Nat.{_^_, _<_};
-ghost use lib.ListN.{getD};
-ghost use Rattle.order.specs.Answers.{recordOf};
-ghost use Rattle.search.specs.Calls.{orderWith};
-ghost use Rattle.answers.specs.Cases.{ofAppended, ofStripped, ofTested, ofWeighed, ofEncoded, ofCollected, ofListed, ofSearched, ofRecord, ofReading, ofWritten};
+ghost use Rattle.answers.specs.Model.Cases.{ofAppended, ofStripped, ofTested, ofWeighed, ofEncoded, ofCollected, ofListed, ofSearched, ofReading, ofWritten};
 use code::Encoded;
 use code::Weighed;
+use collection::Collected;
 use crc::Appended;
 use crc::Stripped;
 use crc::Tested;
-use events::Collected;
 use listing::Listed;
 use order::record::OrderRecord;
 use order::record::Reading;
@@ -20,26 +17,18 @@ use text::Written;
 
 // What a call answers: the number of the refusal or 0, one number, and one word in two halves. What a call does not use is 0.
 #[repr(C)]
-pub struct Answer {
+pub struct HostAnswer {
     pub refusal: u64,
     pub value: u64,
     pub low: u64,
     pub high: u64,
 }
 
-// An order as a record gives it, or the number of the refusal and zeros.
+// An order as a record gives it, and as the calls take it; or the number of the refusal and zeros.
 #[repr(C)]
 pub struct OrderAnswer {
     pub refusal: u64,
-    pub n: u64,
-    pub v: u64,
-    pub bits: u64,
-    pub m: u64,
-    pub d: u64,
-    pub g1: u64,
-    pub g2: u64,
-    pub g3: u64,
-    pub g4: u64,
+    pub order: OrderRecord,
 }
 
 // How many events and paths were listed, or the number of the refusal and zeros.
@@ -69,10 +58,10 @@ pub struct PartAnswer {
 }
 
 // A word in its halves.
-fn word_answer(low: u64, high: u64) -> Answer
+fn word_answer(low: u64, high: u64) -> HostAnswer
     ensures { λ r. ⌜ r ≡ record { refusal = 0; value = 0; low = low; high = high } ⌝ }
 {
-    Answer {
+    HostAnswer {
         refusal: 0,
         value: 0,
         low,
@@ -81,10 +70,10 @@ fn word_answer(low: u64, high: u64) -> Answer
 }
 
 // A refusal, or a number.
-fn number_answer(refusal: u64, value: u64) -> Answer
+fn number_answer(refusal: u64, value: u64) -> HostAnswer
     ensures { λ r. ⌜ r ≡ record { refusal = refusal; value = value; low = 0; high = 0 } ⌝ }
 {
-    Answer {
+    HostAnswer {
         refusal,
         value,
         low: 0,
@@ -92,7 +81,7 @@ fn number_answer(refusal: u64, value: u64) -> Answer
     }
 }
 
-pub fn appended(a: Appended) -> Answer
+pub fn appended(a: Appended) -> HostAnswer
     ensures { λ r. ⌜ (r ≡ ofAppended a) × (r .low < 2 ^ 64) ⌝ }
 {
     match a {
@@ -101,7 +90,7 @@ pub fn appended(a: Appended) -> Answer
     }
 }
 
-pub fn stripped(a: Stripped) -> Answer
+pub fn stripped(a: Stripped) -> HostAnswer
     ensures { λ r. ⌜ (r ≡ ofStripped a) × (r .low < 2 ^ 64) ⌝ }
 {
     match a {
@@ -111,7 +100,7 @@ pub fn stripped(a: Stripped) -> Answer
     }
 }
 
-pub fn tested(a: Tested) -> Answer
+pub fn tested(a: Tested) -> HostAnswer
     ensures { λ r. ⌜ r ≡ ofTested a ⌝ }
 {
     match a {
@@ -121,7 +110,7 @@ pub fn tested(a: Tested) -> Answer
     }
 }
 
-pub fn weighed(a: Weighed) -> Answer
+pub fn weighed(a: Weighed) -> HostAnswer
     ensures { λ r. ⌜ r ≡ ofWeighed a ⌝ }
 {
     match a {
@@ -140,7 +129,7 @@ pub fn encoded(a: Encoded) -> u64
 }
 
 // What the collection answers hosts: the number of events, or the refusal.
-pub fn collected(a: Collected) -> Answer
+pub fn collected(a: Collected) -> HostAnswer
     ensures { λ r. ⌜ r ≡ ofCollected a ⌝ }
 {
     match a {
@@ -206,51 +195,13 @@ pub fn part_answer(refusal: u64, start: u64, numbers: u64) -> PartAnswer
     }
 }
 
-fn order_answer(refusal: u64, o: OrderRecord) -> OrderAnswer
-    ensures { λ r. ⌜ r ≡ ofRecord refusal o ⌝ }
+fn order_answer(refusal: u64, order: OrderRecord) -> OrderAnswer
+    ensures { λ r. ⌜ r ≡ record { refusal = refusal; order = order } ⌝ }
 {
-    OrderAnswer {
-        refusal,
-        n: o.n,
-        v: o.v,
-        bits: o.bits,
-        m: o.m,
-        d: o.d,
-        g1: o.g1,
-        g2: o.g2,
-        g3: o.g3,
-        g4: o.g4,
-    }
+    OrderAnswer { refusal, order }
 }
 
-// Generator i; 0 past the last.
-fn generator_at(generators: &[u64], i: usize) -> u64
-    ensures { λ r. ⌜ r ≡ getD (now (generators .entry)) i 0 ⌝ }
-{
-    if i < generators.len() {
-        return generators[i];
-    }
-    0
-}
-
-// An order as its record struct has it.
-pub fn record_of(generators: &[u64], v: u64, bits: u64, m: u64, d: u64) -> OrderRecord
-    ensures { λ r. ⌜ r ≡ recordOf (orderWith (now (generators .entry)) v bits m d) ⌝ }
-{
-    OrderRecord {
-        n: generators.len() as u64,
-        v,
-        bits,
-        m,
-        d,
-        g1: generator_at(generators, 0),
-        g2: generator_at(generators, 1),
-        g3: generator_at(generators, 2),
-        g4: generator_at(generators, 3),
-    }
-}
-
-pub fn written(a: Written) -> Answer
+pub fn written(a: Written) -> HostAnswer
     ensures { λ r. ⌜ r ≡ ofWritten a ⌝ }
 {
     match a {

@@ -1,9 +1,11 @@
+pub mod Regions
 pub mod Kept
-pub mod Loops
 pub mod Cases
 pub mod Survey
 pub mod Carried
+pub mod Decided
 pub mod Placed
 pub mod Ready
 pub mod States
 pub mod Looked
+pub mod Plains

@@ -11,24 +11,26 @@ use lib.ListN.{getD}
 use Rattle.lists.proofs.Tests.{passes-or-fails}
 use Rattle.events.specs.declared.Event.{Event}
 use Rattle.events.specs.Events.{noEvent}
+use Rattle.bounds.specs.Model.Places.{Region}
 use Rattle.bounds.proofs.Survey.{LastOf}
 use Rattle.bounds.proofs.Carried.{highest, highest-above, highest-most}
 
 pub lt-or-ge : (a b : ℕ) → (a < b) ⊎ (b ≤ a)
 lt-or-ge a b = ⊎-elim (λ t. inl (ltb→lt a b t)) (λ t. inr (nltb→le a b t)) (passes-or-fails (ltb a b))
 
--- the notes of the events from place `from` to before place `to`, from place `base` of the work area on, and the events' order by the key
-pub record Marks (table : List Event) (key : Event → ℕ) (base limit from to : ℕ) (work : List ℕ) : Type 0 where
-  pub after : (k : ℕ) → from ≤ k → k < to → k < getD work (base + key (getD table k noEvent)) 0
-  pub only : (i : ℕ) → i < limit → (getD work (base + i) 0 ≡ 0) ⊎ LastOf table key from to i (getD work (base + i) 0)
-  pub below : (k : ℕ) → from ≤ k → k < to → key (getD table k noEvent) < limit
+-- the notes of the events from place `from` to before place `to`, in region r of the work area, and the events' order by the key
+pub record Marks (table : List Event) (key : Event → ℕ) (r : Region) (from to : ℕ) (work : List ℕ) : Type 0 where
+  pub after : (k : ℕ) → from ≤ k → k < to → k < getD work (r .start + key (getD table k noEvent)) 0
+  pub only : (i : ℕ) → i < r .size → (getD work (r .start + i) 0 ≡ 0) ⊎ LastOf table key from to i (getD work (r .start + i) 0)
+  pub below : (k : ℕ) → from ≤ k → k < to → key (getD table k noEvent) < r .size
   pub ordered : (k k′ : ℕ) → from ≤ k → k < k′ → k′ < to → key (getD table k noEvent) ≤ key (getD table k′ noEvent)
 
-module _ (table : List Event) (key : Event → ℕ) (base limit from to : ℕ) (work : List ℕ) (marks : Marks table key base limit from to work) where
+module _ (table : List Event) (key : Event → ℕ) (r : Region) (from to : ℕ) (work : List ℕ)
+    (marks : Marks table key r from to work) where
   -- the events of a smaller key stand before event k
-  earlier : (k i : ℕ) → from ≤ k → k < to → i < key (getD table k noEvent) → getD work (base + i) 0 ≤ k
+  earlier : (k i : ℕ) → from ≤ k → k < to → i < key (getD table k noEvent) → getD work (r .start + i) 0 ≤ k
   earlier k i h g less =
-      let x : ℕ = getD work (base + i) 0 in
+      let x : ℕ = getD work (r .start + i) 0 in
       let in-range = marks .below k h g in
       ⊎-elim (λ (none : x ≡ 0). omega arith)
       (λ (l : LastOf table key from to i x).
@@ -44,17 +46,17 @@ module _ (table : List Event) (key : Event → ℕ) (base limit from to : ℕ) (
       ])
       (marks .only i (omega arith))
 
-  pub place-at : (k : ℕ) → from ≤ k → k < to → highest work base from (key (getD table k noEvent)) ≤ k
-  place-at k h g = highest-most work base from (key (getD table k noEvent)) k h (λ i less. earlier k i h g less)
+  pub place-at : (k : ℕ) → from ≤ k → k < to → highest work (r .start) from (key (getD table k noEvent)) ≤ k
+  place-at k h g = highest-most work (r .start) from (key (getD table k noEvent)) k h (λ i less. earlier k i h g less)
 
-  pub place-after : (k : ℕ) → from ≤ k → k < to → k < highest work base from (key (getD table k noEvent) + 1)
+  pub place-after : (k : ℕ) → from ≤ k → k < to → k < highest work (r .start) from (key (getD table k noEvent) + 1)
   place-after k h g =
       let a = marks .after k h g in
-      let b = highest-above work base from (key (getD table k noEvent) + 1) (key (getD table k noEvent)) (omega arith) in
+      let b = highest-above work (r .start) from (key (getD table k noEvent) + 1) (key (getD table k noEvent)) (omega arith) in
       omega arith
 
-  pub places-end : (j : ℕ) → j ≤ limit → from ≤ to → highest work base from j ≤ to
-  places-end j h le = highest-most work base from j to le (λ i less. ⊎-elim
-      (λ (none : getD work (base + i) 0 ≡ 0). omega arith)
-      (λ (l : LastOf table key from to i (getD work (base + i) 0)). let a = l .next in let b = l .before in omega arith)
+  pub places-end : (j : ℕ) → j ≤ r .size → from ≤ to → highest work (r .start) from j ≤ to
+  places-end j h le = highest-most work (r .start) from j to le (λ i less. ⊎-elim
+      (λ (none : getD work (r .start + i) 0 ≡ 0). omega arith)
+      (λ (l : LastOf table key from to i (getD work (r .start + i) 0)). let a = l .next in let b = l .before in omega arith)
       (marks .only i (omega arith)))

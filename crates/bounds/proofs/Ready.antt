@@ -8,47 +8,55 @@ use mathlib.Core.List.{List}
 use lib.ListN.{length, getD}
 use Rattle.events.specs.declared.Event.{Event}
 use Rattle.events.specs.Events.{noEvent}
-use Rattle.bounds.specs.Tables.{leastAt, startAt, fillAt, bitsAt, surveyed, opened, carried, closed, Small, Ready, Segment}
-use Rattle.bounds.proofs.Kept.{Noteworthy, length-carried, length-opened, surveyed-elsewhere, carried-elsewhere, filled-elsewhere, closed-elsewhere, small-closed, bitsAt-survives}
+use Rattle.bounds.specs.Model.Places.{mostSteps, lengthCount, tooHeavy, lengthEndPlace, startPlace, areaSize, leasts, lengthEnds, starts, bitsCell, endCell}
+use Rattle.bounds.specs.Model.Tables.{leastAt, startAt, fillAt, bitsAt, surveyed, opened, carried, closed, Small, Ready, Segment}
+use Rattle.bounds.proofs.Regions.{kept}
+use Rattle.bounds.proofs.Kept.{Noteworthy, opened-keeps, surveyed-keeps, lengths-keeps, filled-keeps, closed-keeps, small-closed, bitsAt-survives}
 use Rattle.bounds.proofs.Survey.{LastOf, length-key, survey-last, survey-after, survey-weighs, opened-ends, opened-end, small-opened}
 use Rattle.bounds.proofs.Carried.{highest, carried-at, highest-from, highest-rises, filled-zero, filled-step}
 use Rattle.bounds.proofs.Placed.{Marks, place-at, place-after, places-end}
 
 -- the events of a segment can be noted
-pub segment-noteworthy : (table : List Event) (N from to : ℕ) → N ≤ 128 → from ≤ to → Segment table N from to → Noteworthy table (to - from) from
+pub segment-noteworthy : (table : List Event) (N from to : ℕ) → N ≤ mostSteps → from ≤ to
+    → Segment table N from to → Noteworthy table (to - from) from
 segment-noteworthy table N from to most le seg j h g =
     let l = seg .lengths j h (omega arith) .1 in
-    (seg .states j h (omega arith), omega arith)
+    record { state-small = seg .states j h (omega arith); length-small = omega arith }
 
 -- where the tables of places and of least weights are read, once closed
 module _ (from : ℕ) (work : List ℕ) (small : Small work) where
-  bits-carried : bitsAt (carried 1280 1536 129 from work) ≡ bitsAt work
-  bits-carried = carried-elsewhere 1280 1536 129 from work 2048 (inr (omega arith))
+  abbrev places : List ℕ
+  places = carried lengthEndPlace startPlace lengthCount from work
 
-  pub closed-start : (l : ℕ) → l ≤ 129 → startAt (closed from work) l ≡ highest work 1280 from l
+  bits-carried : bitsAt places ≡ bitsAt work
+  bits-carried = kept (lengths-keeps from work) bitsCell tt 0 (omega arith)
+
+  pub closed-start : (l : ℕ) → l ≤ lengthCount → startAt (closed from work) l ≡ highest work lengthEndPlace from l
   unfolding closed
   closed-start l h =
-      let bits = small .bits-small in
+      let few = small .bits-small in
       let same = bits-carried in
       let enough = small .enough in
-      filled-elsewhere (carried 1280 1536 129 from work) (1536 + l) (inl (omega arith)) (omega arith)
-      ∙ carried-at 1280 1536 129 from work l h (omega arith) (inr (omega arith))
+      kept (filled-keeps places (omega arith)) starts tt l (omega arith)
+      ∙ carried-at lengthEndPlace startPlace lengthCount from work l h (omega arith) (inr (omega arith))
 
   pub closed-zero : fillAt (closed from work) 0 ≡ 0
   unfolding closed
-  closed-zero = let size = length-carried 1280 1536 129 from work in let enough = small .enough in filled-zero (carried 1280 1536 129 from work) (omega arith)
+  closed-zero = let size = lengths-keeps from work .size in let enough = small .enough in filled-zero places (omega arith)
 
-  pub closed-step : (k l : ℕ) → 1 ≤ l → l ≤ k → k ≤ bitsAt work → fillAt (closed from work) k ≤ leastAt (closed from work) l + fillAt (closed from work) (k - l)
+  pub closed-step : (k l : ℕ) → 1 ≤ l → l ≤ k → k ≤ bitsAt work
+      → fillAt (closed from work) k ≤ leastAt (closed from work) l + fillAt (closed from work) (k - l)
   unfolding closed
   closed-step k l p q h =
-      let size = length-carried 1280 1536 129 from work in
+      let size = lengths-keeps from work .size in
       let enough = small .enough in
       let same = bits-carried in
-      let bits = small .bits-small in
-      filled-step (carried 1280 1536 129 from work) k l (omega arith) (omega arith) p q (omega arith)
+      let few = small .bits-small in
+      filled-step places k l (omega arith) (omega arith) p q (omega arith)
 
-module _ (table : List Event) (N from to : ℕ) (work : List ℕ) (seg : Segment table N from to) (is-bits : bitsAt work ≡ N) (some : 1 ≤ N) (most : N ≤ 128)
-    (le : from ≤ to) (room : 8192 ≤ length work) (fill : (k : ℕ) → k ≤ 128 → fillAt work k ≤ 255) where
+module _ (table : List Event) (N from to : ℕ) (work : List ℕ) (seg : Segment table N from to) (is-bits : bitsAt work ≡ N)
+    (some : 1 ≤ N) (most : N ≤ mostSteps)
+    (le : from ≤ to) (room : areaSize ≤ length work) (fill : (k : ℕ) → k ≤ mostSteps → fillAt work k ≤ tooHeavy) where
   noteworthy : Noteworthy table (to - from) from
   noteworthy = segment-noteworthy table N from to most le seg
 
@@ -58,21 +66,23 @@ module _ (table : List Event) (N from to : ℕ) (work : List ℕ) (seg : Segment
   all : from + (to - from) ≡ to
   all = omega arith
 
-  size : 8192 ≤ length (opened to work)
-  size = let s = length-opened to work in omega arith
+  size : areaSize ≤ length (opened to work)
+  size = let s = opened-keeps to work .size in omega arith
 
   pub segment-small : Small (surveyed table (to - from) from (opened to work))
   segment-small = small-opened table (to - from) from to work noteworthy room (omega arith) fill
 
-  segment-marks : Marks table (λ e. e .length) 1280 129 from to surveyed-state
+  segment-marks : Marks table (λ e. e .length) lengthEnds from to surveyed-state
   unfolding surveyed-state
   segment-marks = record {
-    after = λ k h g. survey-after 1280 129 (λ e. e .length) length-key table (to - from) from (opened to work) k size noteworthy h (let e = all in omega arith);
+    after = λ k h g. survey-after lengthEnds (λ e. e .length) length-key table (to - from) from
+        (opened to work) k size noteworthy h (let e = all in omega arith);
     only = λ i h. ⊎-elim
-        (λ (q : getD surveyed-state (1280 + i) 0 ≡ getD (opened to work) (1280 + i) 0). inl (q ∙ opened-ends to work room i (omega arith)))
-        (λ (l : LastOf table (λ e. e .length) from (from + (to - from)) i (getD surveyed-state (1280 + i) 0)).
-        inr (subst (λ (x : ℕ). LastOf table (λ e. e .length) from x i (getD surveyed-state (1280 + i) 0)) all l))
-        (survey-last 1280 129 (λ e. e .length) length-key table (to - from) from (opened to work) i size noteworthy h);
+        (λ (q : getD surveyed-state (lengthEndPlace + i) 0 ≡ getD (opened to work) (lengthEndPlace + i) 0). inl
+        (q ∙ opened-ends to work room i (omega arith)))
+        (λ (l : LastOf table (λ e. e .length) from (from + (to - from)) i (getD surveyed-state (lengthEndPlace + i) 0)).
+        inr (subst (λ (x : ℕ). LastOf table (λ e. e .length) from x i (getD surveyed-state (lengthEndPlace + i) 0)) all l))
+        (survey-last lengthEnds (λ e. e .length) length-key table (to - from) from (opened to work) i size noteworthy h);
     below = λ k h g. let l = seg .lengths k h g .1 in omega arith;
     ordered = seg .ordered;
   }
@@ -82,30 +92,38 @@ module _ (table : List Event) (N from to : ℕ) (work : List ℕ) (seg : Segment
   ready =
       let survey : List ℕ = surveyed table (to - from) from (opened to work) in
       let small : Small survey = segment-small in
-      let bits-small : bitsAt survey ≤ 128 = small .bits-small in
-      let bits : bitsAt (closed from survey) ≡ bitsAt work = bitsAt-survives table (to - from) from from to work noteworthy (omega arith) in
-      let same-bits : bitsAt (closed from survey) ≡ bitsAt survey = closed-elsewhere from survey 2048 (inr (omega arith)) bits-small in
-      let start : (l : ℕ) → l ≤ 129 → startAt (closed from survey) l ≡ highest survey 1280 from l = closed-start from survey small in
+      let bits-small : bitsAt survey ≤ mostSteps = small .bits-small in
+      let bits : bitsAt (closed from survey) ≡ bitsAt work =
+      bitsAt-survives table (to - from) from from to work noteworthy (omega arith) in
+      let closing = closed-keeps from survey bits-small in
+      let same-bits : bitsAt (closed from survey) ≡ bitsAt survey = kept closing bitsCell tt 0 (omega arith) in
+      let start : (l : ℕ) → l ≤ lengthCount → startAt (closed from survey) l ≡ highest survey lengthEndPlace from l =
+      closed-start from survey small in
       record {
         small = small-closed from survey small;
         some-bits = omega arith;
-        ends = closed-elsewhere from survey 2049 (inr (omega arith)) bits-small
-            ∙ surveyed-elsewhere table (to - from) from (opened to work) 2049 noteworthy (inr (omega arith)) (inr (omega arith)) ∙ opened-end to work room;
-        starts-rise = λ l l′ h g. let a = start l (omega arith) in let b = start l′ g in let c = highest-rises survey 1280 from l l′ h in omega arith;
-        starts-from = let a = start 0 (omega arith) in let b = highest-from survey 1280 from 0 in omega arith;
-        starts-to = let a = start 129 (omega arith) in let b = places-end table (λ e. e .length) 1280 129 from to survey segment-marks 129 (omega arith) le in omega arith;
+        ends =
+            kept closing endCell tt 0 (omega arith)
+            ∙ kept (surveyed-keeps table (to - from) from (opened to work) noteworthy) endCell tt 0 (omega arith)
+            ∙ opened-end to work room;
+        starts-rise = λ l l′ h g. let a = start l (omega arith) in let b = start l′ g in
+            let c = highest-rises survey lengthEndPlace from l l′ h in omega arith;
+        starts-from = let a = start 0 (omega arith) in let b = highest-from survey lengthEndPlace from 0 in omega arith;
+        starts-to = let a = start lengthCount (omega arith) in
+            let b = places-end table (λ e. e .length) lengthEnds from to survey segment-marks lengthCount (omega arith) le in
+            omega arith;
         placed = λ k h g.
             let l : ℕ = getD table k noEvent .length in
             let short : l ≤ N = seg .lengths k h g .1 in
             let a = start l (omega arith) in
             let b = start (l + 1) (omega arith) in
-            let c = place-at table (λ e. e .length) 1280 129 from to survey segment-marks k h g in
-            let d = place-after table (λ e. e .length) 1280 129 from to survey segment-marks k h g in
+            let c = place-at table (λ e. e .length) lengthEnds from to survey segment-marks k h g in
+            let d = place-after table (λ e. e .length) lengthEnds from to survey segment-marks k h g in
             (omega arith, omega arith);
         least-weighs = λ k h g.
             let l : ℕ = getD table k noEvent .length in
             let short : l ≤ N = seg .lengths k h g .1 in
-            let same : leastAt (closed from survey) l ≡ leastAt survey l = closed-elsewhere from survey (1024 + l) (inl (omega arith)) bits-small in
+            let same : leastAt (closed from survey) l ≡ leastAt survey l = kept closing leasts tt l (omega arith) in
             let e = all in
             let w = survey-weighs table (to - from) from (opened to work) k size noteworthy h (omega arith) in
             omega arith;

@@ -1,20 +1,67 @@
 // The tables that tell which events are worth joining to a chain: where each state's and each length's events stand, and the least weights of an
-// event of each length and of a chain of each number of steps. They are kept in the work area; specs/Tables.antt says where.
+// event of each length and of a chain of each number of steps. They are kept in the work area; specs/Model/Places.antt says where.
 ghost use mathlib.Core.Path.{_≡_};
-ghost use Prim.Native.Nat.{_+_, _≤_, _<_};
-ghost use Prim.Native.Nat.{min, max};
-ghost use lib.ListN.{length, getD};
-ghost use Rattle.bounds.specs.Tables.{noted, opened, carried, leastSum, filled, indexed, closed, nextLength, beginning, following, decided, Small};
+ghost use Prim.Native.Nat.{_+_, _≤_, _<_, min, max};
+ghost use lib.ListN.{length};
+ghost use Rattle.bounds.specs.Model.Places.{mostSteps, stateCount, areaSize};
+ghost use Rattle.bounds.specs.Model.Tables.{firstOf, noted, opened, carried, leastSum, filled, indexed, closed, nextLength, beginning, following, decided, Fits, Small, ToLook, ToFollow, ToDecide};
 use events::Event;
+
+// ---- places of the work area, each where a table begins; specs/Model/Places.antt says what stands there
+
+pub const FIRST_AT: usize = 0;
+
+pub const STATE_END_AT: usize = 512;
+
+pub const LEAST_AT: usize = 1024;
+
+pub const LENGTH_END_AT: usize = 1280;
+
+pub const START_AT: usize = 1536;
+
+pub const FILL_AT: usize = 1792;
+
+pub const BITS_AT: usize = 2048;
+
+pub const END_AT: usize = 2049;
+
+// How many states and how many lengths, 0 among them, the tables have.
+const STATES: usize = 256;
+
+const LENGTHS: usize = 129;
+
+// More than any chain may weigh.
+const TOO_HEAVY: u64 = 255;
+
+// ---- chains
+
+// A chain begun: the length of its first event (0 before there is one), the steps and the weight that are left to it, and the inputs so far in two
+// halves, low half first.
+pub struct Chain {
+    pub first: u64,
+    pub steps: u64,
+    pub budget: u64,
+    pub low: u64,
+    pub high: u64,
+}
+
+// What an event comes to: it is passed over, it completes a chain, or it is joined and more follow.
+pub const SKIPPED: u64 = 0;
+
+pub const COMPLETE: u64 = 1;
+
+pub const CONTINUED: u64 = 2;
+
+// ---- noting events
 
 // One event, which stands before place `after`, is noted under its state and its length.
 pub fn note(work: &mut [u64], e: Event, after: usize)
-    requires { ⌜ (8192 ≤ length (now work)) × (e .state < 256) × (e .length ≤ 128) ⌝ }
+    requires { ⌜ (areaSize ≤ length (now work)) × Fits e ⌝ }
     ensures { λ _. ⌜ now (work .exit) ≡ noted (now (work .entry)) e after ⌝ }
 {
-    let state = (512 + e.state) as usize;
-    let last = (1280 + e.length) as usize;
-    let least = (1024 + e.length) as usize;
+    let state = STATE_END_AT + e.state as usize;
+    let last = LENGTH_END_AT + e.length as usize;
+    let least = LEAST_AT + e.length as usize;
     work[state] = after as u64;
     work[last] = after as u64;
     let w = smaller(e.weight, work[least]);
@@ -41,14 +88,14 @@ fn larger(a: u64, b: u64) -> u64
 
 // The tables of lengths are made ready for the events of one state, which end before place `end`.
 pub fn open_state(work: &mut [u64], end: usize)
-    requires { ⌜ 8192 ≤ length (now work) ⌝ }
+    requires { ⌜ areaSize ≤ length (now work) ⌝ }
     ensures { λ _. ⌜ now (work .exit) ≡ opened end (now (work .entry)) ⌝ }
 {
-    work[2049] = end as u64;
+    work[END_AT] = end as u64;
     let mut l = 0;
-    while l < 129 {
-        work[1024 + l] = 255;
-        work[1280 + l] = 0;
+    while l < LENGTHS {
+        work[LEAST_AT + l] = TOO_HEAVY;
+        work[LENGTH_END_AT + l] = 0;
         l += 1;
     }
 }
@@ -71,14 +118,14 @@ fn carry(work: &mut [u64], ends: usize, starts: usize, n: usize, from: usize)
 
 // The least weight of k steps.
 fn least_sum(work: &[u64], k: u64) -> u64
-    requires { ⌜ Small (now work) × (k ≤ 128) ⌝ }
+    requires { ⌜ Small (now work) × (k ≤ mostSteps) ⌝ }
     ensures { λ r. ⌜ r ≡ leastSum (now (work .entry)) k k ⌝ }
 {
-    let mut least = 255;
+    let mut least = TOO_HEAVY;
     let mut l = 1;
     while l <= k {
-        let event = (1024 + l) as usize;
-        let rest = (1792 + (k - l)) as usize;
+        let event = LEAST_AT + l as usize;
+        let rest = FILL_AT + (k - l) as usize;
         least = smaller(least, work[event] + work[rest]);
         l += 1;
     }
@@ -90,23 +137,23 @@ fn fill(work: &mut [u64])
     requires { ⌜ Small (now work) ⌝ }
     ensures { λ _. ⌜ now (work .exit) ≡ filled (now (work .entry)) ⌝ }
 {
-    work[1792] = 0;
-    let bits = work[2048];
+    work[FILL_AT] = 0;
+    let bits = work[BITS_AT];
     let mut k = 1;
     while k <= bits {
         let w = least_sum(work, k);
-        work[(1792 + k) as usize] = w;
+        work[FILL_AT + k as usize] = w;
         k += 1;
     }
 }
 
 // Once all events are noted: where each state's events begin.
 pub fn index_states(work: &mut [u64], bits: u64)
-    requires { ⌜ 8192 ≤ length (now work) ⌝ }
+    requires { ⌜ areaSize ≤ length (now work) ⌝ }
     ensures { λ _. ⌜ now (work .exit) ≡ indexed bits (now (work .entry)) ⌝ }
 {
-    carry(work, 512, 0, 256, 0);
-    work[2048] = bits;
+    carry(work, STATE_END_AT, FIRST_AT, STATES, 0);
+    work[BITS_AT] = bits;
 }
 
 // Once the events of a state are noted, which begin at place `from`.
@@ -114,79 +161,79 @@ pub fn close_state(work: &mut [u64], from: usize)
     requires { ⌜ Small (now work) ⌝ }
     ensures { λ _. ⌜ now (work .exit) ≡ closed from (now (work .entry)) ⌝ }
 {
-    carry(work, 1280, 1536, 129, from);
+    carry(work, LENGTH_END_AT, START_AT, LENGTHS, from);
     fill(work);
 }
 
 // The place of the first event of state i or above.
 pub fn first_of(work: &[u64], i: usize) -> usize
-    requires { ⌜ (8192 ≤ length (now work)) × (i ≤ 256) ⌝ }
-    ensures { λ r. ⌜ r ≡ getD (now (work .entry)) i 0 ⌝ }
+    requires { ⌜ (areaSize ≤ length (now work)) × (i ≤ stateCount) ⌝ }
+    ensures { λ r. ⌜ r ≡ firstOf (now (work .entry)) i ⌝ }
 {
-    work[i] as usize
+    work[FIRST_AT + i] as usize
 }
 
 // The place of the first length from l on that may begin a chain of `left` steps that weighs `budget`.
 fn next_length(work: &[u64], left: u64, budget: u64, l: u64) -> usize
-    requires { ⌜ Small (now work) × (left ≤ 128) × (l ≤ 129) ⌝ }
+    requires { ⌜ ToLook (now work) left l ⌝ }
     ensures { λ r. ⌜ r ≡ nextLength (now (work .entry)) left budget l ⌝ }
 {
     let mut k = l;
     while k <= left {
-        let event = (1024 + k) as usize;
-        let rest = (1792 + (left - k)) as usize;
+        let event = LEAST_AT + k as usize;
+        let rest = FILL_AT + (left - k) as usize;
         if work[event] + work[rest] <= budget {
-            return work[(1536 + k) as usize] as usize;
+            return work[START_AT + k as usize] as usize;
         }
         k += 1;
     }
-    work[2049] as usize
+    work[END_AT] as usize
 }
 
 // The first event to look at, where `at` paths of at most `room` are counted.
-pub fn begin(work: &[u64], at: usize, room: usize, node: Event) -> usize
-    requires { ⌜ Small (now work) × (node .length ≤ 128) ⌝ }
-    ensures { λ r. ⌜ r ≡ beginning (now (work .entry)) at room node ⌝ }
+pub fn begin(work: &[u64], at: usize, room: usize, begun: Chain) -> usize
+    requires { ⌜ Small (now work) × (begun .steps ≤ mostSteps) ⌝ }
+    ensures { λ r. ⌜ r ≡ beginning (now (work .entry)) at room begun ⌝ }
 {
     if room < at {
-        return work[2049] as usize;
+        return work[END_AT] as usize;
     }
-    next_length(work, node.length, node.weight, 1)
+    next_length(work, begun.steps, begun.budget, 1)
 }
 
 // The event to look at after that at place k, which has length l.
-pub fn follow(work: &[u64], at: usize, room: usize, node: Event, l: u64, k: usize) -> usize
-    requires { ⌜ Small (now work) × (node .length ≤ 128) × (l ≤ 128) × (k + 1 < 18446744073709551616) ⌝ }
-    ensures { λ r. ⌜ r ≡ following (now (work .entry)) at room node l k ⌝ }
+pub fn follow(work: &[u64], at: usize, room: usize, begun: Chain, l: u64, k: usize) -> usize
+    requires { ⌜ ToFollow (now work) begun l k ⌝ }
+    ensures { λ r. ⌜ r ≡ following (now (work .entry)) at room begun l k ⌝ }
 {
     if room < at {
-        return work[2049] as usize;
+        return work[END_AT] as usize;
     }
-    if k + 1 < work[(1537 + l) as usize] as usize {
+    if k + 1 < work[START_AT + (l + 1) as usize] as usize {
         return k + 1;
     }
-    next_length(work, node.length, node.weight, l + 1)
+    next_length(work, begun.steps, begun.budget, l + 1)
 }
 
-// 0: event e is passed over, 1: it ends a chain, 2: it is joined and more follow.
-pub fn decide(work: &[u64], node: Event, e: Event) -> u64
-    requires { ⌜ Small (now work) × (node .length ≤ 128) × (e .weight ≤ 512) ⌝ }
-    ensures { λ r. ⌜ r ≡ decided (now (work .entry)) node e ⌝ }
+// What event e comes to.
+pub fn decide(work: &[u64], begun: Chain, e: Event) -> u64
+    requires { ⌜ ToDecide (now work) begun e ⌝ }
+    ensures { λ r. ⌜ r ≡ decided (now (work .entry)) begun e ⌝ }
 {
-    if node.length < e.length {
-        return 0;
+    if begun.steps < e.length {
+        return SKIPPED;
     }
-    if node.weight < e.weight {
-        return 0;
+    if begun.budget < e.weight {
+        return SKIPPED;
     }
-    if e.length == node.length {
-        if e.weight == node.weight {
-            return 1;
+    if e.length == begun.steps {
+        if e.weight == begun.budget {
+            return COMPLETE;
         }
-        return 0;
+        return SKIPPED;
     }
-    if e.weight + work[(1792 + (node.length - e.length)) as usize] <= node.weight {
-        return 2;
+    if e.weight + work[FILL_AT + (begun.steps - e.length) as usize] <= begun.budget {
+        return CONTINUED;
     }
-    0
+    SKIPPED
 }

@@ -6,88 +6,33 @@ use Prim.Native.Nat.{ℕ, zero, suc, _+_, _-_, _*_, _^_, _≤_, _<_}
 use native.Mathlib.Nat.{add-zero}
 use native.Mathlib.Omega.{arith}
 use mathlib.Core.Path.{_≡_, refl, sym, ap, _∙_, subst}
-use mathlib.Core.Bool.{Bool, true, false, not, cond, _&&_}
-use mathlib.Core.Logic.{_⊎_, inl, inr, ⊎-elim}
+use mathlib.Core.Bool.{not, cond}
+use mathlib.Core.Logic.{⊎-elim, _≢_}
 use mathlib.Core.List.{List, [], _∷_, _++_, flatMap, List·Memᴰ, Memᴰ·of-map}
-use lib.Dec.{T, leb, eqb, leb→le, eqb→eq, not-T, T-not, nleb→lt, lit<}
+use lib.Dec.{T, leb, eqb, leb→le, eqb→eq, not-T, nleb→lt}
 use lib.Pow.{split}
 use lib.ListN.{length, getD}
 use Rattle.lists.specs.Lists.{upFrom}
 use Rattle.lists.proofs.Member.{upFrom-bounds}
 use Rattle.lists.proofs.Tests.{T-and, passes-or-fails}
 use Rattle.lists.proofs.Blocks.{flatMap-cong-on, flatMap-map}
-use Rattle.lists.proofs.Choices.{cond-true, cond-false, eqb-passes}
+use Rattle.lists.proofs.Choices.{cond-true, cond-false}
 use Rattle.events.specs.declared.Event.{Event}
 use Rattle.events.specs.Events.{ErrorEvent, noEvent}
-use Rattle.paths.specs.Chains.{turns, firstOr, fitsIn, joining, joined}
+use Rattle.paths.specs.Model.Joining.{turns, firstOr, fitsIn, joining, joined}
 use Rattle.paths.proofs.Pruned.{joined-drops}
-use Rattle.bounds.specs.Tables.{startAt, endAt, bitsAt, leastAt, fillAt, decided}
-use Rattle.chains.specs.Chaining.{wordOf, errorEvent, atHand, extended, found, foundBy, Joinable, Joins, Node}
+use Rattle.bounds.specs.declared.Chain.{Chain}
+use Rattle.bounds.specs.Model.Tables.{startAt, endAt, bitsAt, leastAt, fillAt, skipped, complete, decided}
+use Rattle.bounds.proofs.Decided.{fits, whole, spent, fit-parts, decided-skipped, decided-complete, decided-continued}
+use Rattle.bounds.proofs.Looked.{Useless}
+use Rattle.chains.specs.Model.Chaining.{inputsOf, wordOf, errorEvent, atHand, extended, found, foundBy, Joinable, Joins, Unfinished}
 
-pub word-extended : (N : ℕ) (node e : Event) → wordOf (extended N node e) ≡ wordOf node + wordOf e * 2 ^ (N - node .length)
+pub word-extended : (N : ℕ) (begun : Chain) (e : Event)
+    → inputsOf (extended N begun e) ≡ inputsOf begun + wordOf e * 2 ^ (N - begun .steps)
 unfolding extended
-word-extended N node e = split (wordOf node + wordOf e * 2 ^ (N - node .length)) 64
+word-extended N begun e = split (inputsOf begun + wordOf e * 2 ^ (N - begun .steps)) 64
 
--- ---- what a decision says
-
--- of the four tests, which one made it
-decision-0 : (f l w m : Bool) → cond {A = ℕ} f (cond l (cond w 1 0) (cond m 2 0)) 0 ≡ 0 → T (not f) ⊎ ((T l × T (not w)) ⊎ (T (not l) × T (not m)))
-decision-0 false l w m e = inl tt
-decision-0 true true true m e = absurd (omega arith)
-decision-0 true true false m e = inr (inl (tt, tt))
-decision-0 true false w true e = absurd (omega arith)
-decision-0 true false w false e = inr (inr (tt, tt))
-
-decision-1 : (f l w m : Bool) → cond {A = ℕ} f (cond l (cond w 1 0) (cond m 2 0)) 0 ≡ 1 → T f × (T l × T w)
-decision-1 false l w m e = absurd (omega arith)
-decision-1 true true true m e = (tt, (tt, tt))
-decision-1 true true false m e = absurd (omega arith)
-decision-1 true false w true e = absurd (omega arith)
-decision-1 true false w false e = absurd (omega arith)
-
-decision-2 : (f l w m : Bool) (x : ℕ) → cond {A = ℕ} f (cond l (cond w 1 0) (cond m 2 0)) 0 ≡ x → (x ≡ 0 → ⊥) → (x ≡ 1 → ⊥) → T f × (T (not l) × T m)
-decision-2 false l w m x e n₀ n₁ = absurd (n₀ (sym e))
-decision-2 true true true m x e n₀ n₁ = absurd (n₁ (sym e))
-decision-2 true true false m x e n₀ n₁ = absurd (n₀ (sym e))
-decision-2 true false w true x e n₀ n₁ = (tt, (tt, tt))
-decision-2 true false w false x e n₀ n₁ = absurd (n₀ (sym e))
-
-decision-fits : (f l w m : Bool) (x : ℕ) → cond {A = ℕ} f (cond l (cond w 1 0) (cond m 2 0)) 0 ≡ x → (x ≡ 0 → ⊥) → T f
-decision-fits false l w m x e n₀ = absurd (n₀ (sym e))
-decision-fits true l w m x e n₀ = tt
-
-decision-small : (f l w m : Bool) → cond {A = ℕ} f (cond l (cond w 1 0) (cond m 2 0)) 0 < 2 ^ 64
-decision-small false l w m = lit< tt
-decision-small true true true m = lit< tt
-decision-small true true false m = lit< tt
-decision-small true false w true = lit< tt
-decision-small true false w false = lit< tt
-
--- an event that is joined fits
-pub decided-fits : (work : List ℕ) (node e : Event) → (decided work node e ≡ 0 → ⊥) → (e .length ≤ node .length) × (e .weight ≤ node .weight)
-unfolding decided
-decided-fits work node e n₀ =
-    let t = decision-fits (leb (e .length) (node .length) && leb (e .weight) (node .weight)) (eqb (e .length) (node .length)) (eqb (e .weight) (node .weight)) (leb (e .weight + fillAt work (node .length - e .length)) (node .weight)) (decided work node e) refl n₀ in
-    let h = T-and (leb (e .length) (node .length)) (leb (e .weight) (node .weight)) .0 t in
-    (leb→le (e .length) (node .length) (h .0), leb→le (e .weight) (node .weight) (h .1))
-
--- and leaves some steps where more follow
-pub decided-shorter : (work : List ℕ) (node e : Event) → (decided work node e ≡ 0 → ⊥) → (decided work node e ≡ 1 → ⊥) → e .length < node .length
-unfolding decided
-decided-shorter work node e n₀ n₁ =
-    let h = decision-2 (leb (e .length) (node .length) && leb (e .weight) (node .weight)) (eqb (e .length) (node .length)) (eqb (e .weight) (node .weight)) (leb (e .weight + fillAt work (node .length - e .length)) (node .weight)) (decided work node e) refl n₀ n₁ in
-    let f = decided-fits work node e n₀ .0 in
-    let n : e .length ≡ node .length → ⊥ = λ q. T-not (eqb (e .length) (node .length)) (h .1 .0) (eqb-passes (e .length) (node .length) q) in
-    less (e .length) (node .length) f n
-  where
-    less : (x y : ℕ) → x ≤ y → (x ≡ y → ⊥) → x < y
-    less x y g n = omega arith
-
-pub decided-small : (work : List ℕ) (node e : Event) → decided work node e < 2 ^ 64
-unfolding decided
-decided-small work node e = decision-small (leb (e .length) (node .length) && leb (e .weight) (node .weight)) (eqb (e .length) (node .length)) (eqb (e .weight) (node .weight)) (leb (e .weight + fillAt work (node .length - e .length)) (node .weight))
-
-module _ (table : List Event) (work : List ℕ) (joins : Joins table work) where
+module _ {table : List Event} {work : List ℕ} (joins : Joins table work) where
   abbrev N : ℕ
   N = bitsAt work
 
@@ -118,11 +63,13 @@ module _ (table : List Event) (work : List ℕ) (joins : Joins table work) where
   unfolding errorEvent
   least-weighs e m =
       let h = at-hand e m in
-      subst (λ (x : ErrorEvent). leastAt work (x .length) ≤ x .weight) (h .1 .1 .1) (joins .ready .least-weighs (h .0) (h .1 .0) (h .1 .1 .0))
+      subst (λ (x : ErrorEvent). leastAt work (x .length) ≤ x .weight) (h .1 .1 .1)
+      (joins .ready .least-weighs (h .0) (h .1 .0) (h .1 .1 .0))
 
   -- steps that cannot be filled find nothing
   drops : (fuel left acc first budget : ℕ) → left ≤ N → budget < fillAt work left → joined fuel es N left acc first budget ≡ []
-  drops = joined-drops N es some-step (leastAt work) (fillAt work) (joins .ready .fill-zero) (joins .ready .fill-step) least-weighs
+  drops =
+      joined-drops N es some-step (leastAt work) (fillAt work) (joins .ready .fill-zero) (joins .ready .fill-step) least-weighs
 
   -- ---- one event more, by itself
   module _ (fuel left acc first budget : ℕ) (e : ErrorEvent) (inside : left ≤ N) (some : 1 ≤ e .length) where
@@ -142,16 +89,23 @@ module _ (table : List Event) (work : List ℕ) (joins : Joins table work) where
     unfolding joining
     joining-unfit t = cond-false (fitsIn left budget e) (cond (eqb (e .length) left) last rest) [] t
 
-    joining-whole : T (fitsIn left budget e) → T (eqb (e .length) left) → joining N (joined fuel es N) left acc first budget e ≡ last
+    joining-whole : T (fitsIn left budget e) → T (eqb (e .length) left)
+        → joining N (joined fuel es N) left acc first budget e ≡ last
     unfolding joining
-    joining-whole t s = cond-true (fitsIn left budget e) (cond (eqb (e .length) left) last rest) [] t ∙ cond-true (eqb (e .length) left) last rest s
+    joining-whole t s =
+        cond-true (fitsIn left budget e) (cond (eqb (e .length) left) last rest) [] t
+        ∙ cond-true (eqb (e .length) left) last rest s
 
-    joining-part : T (fitsIn left budget e) → T (not (eqb (e .length) left)) → joining N (joined fuel es N) left acc first budget e ≡ rest
+    joining-part : T (fitsIn left budget e) → T (not (eqb (e .length) left))
+        → joining N (joined fuel es N) left acc first budget e ≡ rest
     unfolding joining
-    joining-part t s = cond-true (fitsIn left budget e) (cond (eqb (e .length) left) last rest) [] t ∙ cond-false (eqb (e .length) left) last rest s
+    joining-part t s =
+        cond-true (fitsIn left budget e) (cond (eqb (e .length) left) last rest) [] t
+        ∙ cond-false (eqb (e .length) left) last rest s
 
     -- an event that the least weight of the steps after it forbids
-    pub not-worth : budget < e .weight + fillAt work (left - e .length) → joining N (joined fuel es N) left acc first budget e ≡ []
+    pub not-worth : budget < e .weight + fillAt work (left - e .length)
+        → joining N (joined fuel es N) left acc first budget e ≡ []
     unfolding fitsIn
     not-worth heavy =
         ⊎-elim (λ t. fitting t) joining-unfit (passes-or-fails (fitsIn left budget e))
@@ -168,7 +122,8 @@ module _ (table : List Event) (work : List ℕ) (joins : Joins table work) where
             let h = T-and (leb (e .length) left) (leb (e .weight) budget) .0 t in
             let light = leb→le (e .weight) budget (h .1) in
             ⊎-elim (λ s. absurd (let x = none-left (eqb→eq (e .length) left s) in omega arith))
-            (λ s. joining-part t s ∙ drops fuel (left - e .length) c first′ (budget - e .weight) (omega arith) (omega arith)) (passes-or-fails (eqb (e .length) left))
+            (λ s. joining-part t s ∙ drops fuel (left - e .length) c first′ (budget - e .weight) (omega arith) (omega arith))
+            (passes-or-fails (eqb (e .length) left))
 
   -- ---- more fuel than steps left changes nothing
 
@@ -178,139 +133,173 @@ module _ (table : List Event) (work : List ℕ) (joins : Joins table work) where
   nothing (x ∷ xs) = nothing xs
 
   -- no event fits into no step
-  no-step : (fuel left acc first budget : ℕ) (e : ErrorEvent) → left ≤ N → 1 ≤ e .length → left ≡ 0 → joining N (joined fuel es N) left acc first budget e ≡ []
+  no-step : (fuel left acc first budget : ℕ) (e : ErrorEvent) → left ≤ N → 1 ≤ e .length → left ≡ 0
+      → joining N (joined fuel es N) left acc first budget e ≡ []
   unfolding fitsIn
   no-step fuel left acc first budget e h some none =
-      joining-unfit fuel left acc first budget e h some (not-T (fitsIn left budget e) (λ t. let g = leb→le (e .length) left (T-and (leb (e .length) left) (leb (e .weight) budget) .0 t .0) in omega arith))
+      joining-unfit fuel left acc first budget e h some
+      (not-T (fitsIn left budget e) (λ t. let g = leb→le (e .length) left
+      (T-and (leb (e .length) left) (leb (e .weight) budget) .0 t .0) in omega arith))
 
   joining-same : (fuel fuel′ left acc first budget : ℕ) (e : ErrorEvent)
-      → joined fuel es N (left - e .length) (acc + e .input * 2 ^ (N - left)) (firstOr first (e .length)) (budget - e .weight) ≡ joined fuel′ es N (left - e .length) (acc + e .input * 2 ^ (N - left)) (firstOr first (e .length)) (budget - e .weight)
+      → joined fuel es N (left - e .length) (acc + e .input * 2 ^ (N - left)) (firstOr first (e .length))
+      (budget - e .weight) ≡ joined fuel′ es N (left - e .length) (acc + e .input * 2 ^ (N - left))
+      (firstOr first (e .length)) (budget - e .weight)
       → joining N (joined fuel es N) left acc first budget e ≡ joining N (joined fuel′ es N) left acc first budget e
   unfolding joining
   joining-same fuel fuel′ left acc first budget e same =
       let c′ : ℕ = acc + e .input * 2 ^ (N - left) in
       let f′ : ℕ = firstOr first (e .length) in
-      ap (λ (rest : List ℕ). cond (fitsIn left budget e) (cond (eqb (e .length) left) (cond (eqb (e .weight) budget) (turns N f′ c′) []) rest) []) same
+      ap (λ (rest : List ℕ). cond (fitsIn left budget e)
+      (cond (eqb (e .length) left) (cond (eqb (e .weight) budget) (turns N f′ c′) []) rest) []) same
 
   joined-fuel : (fuel fuel′ left acc first budget : ℕ) → left ≤ N → left ≤ fuel → left ≤ fuel′
       → joined fuel es N left acc first budget ≡ joined fuel′ es N left acc first budget
   unfolding joined
   joined-fuel zero zero left acc first budget h g g′ = refl
-  joined-fuel zero (suc fuel′) left acc first budget h g g′ = sym (flatMap-cong-on (joining N (joined fuel′ es N) left acc first budget) (λ _. []) es (λ e m. no-step fuel′ left acc first budget e h (some-step e m) (omega arith)) ∙ nothing es)
-  joined-fuel (suc fuel) zero left acc first budget h g g′ = flatMap-cong-on (joining N (joined fuel es N) left acc first budget) (λ _. []) es (λ e m. no-step fuel left acc first budget e h (some-step e m) (omega arith)) ∙ nothing es
+  joined-fuel zero (suc fuel′) left acc first budget h g g′ =
+      sym (flatMap-cong-on (joining N (joined fuel′ es N) left acc first budget) (λ _. []) es
+      (λ e m. no-step fuel′ left acc first budget e h (some-step e m) (omega arith)) ∙ nothing es)
+  joined-fuel (suc fuel) zero left acc first budget h g g′ =
+      flatMap-cong-on (joining N (joined fuel es N) left acc first budget) (λ _. []) es
+      (λ e m. no-step fuel left acc first budget e h (some-step e m) (omega arith)) ∙ nothing es
   joined-fuel (suc fuel) (suc fuel′) left acc first budget h g g′ =
-      flatMap-cong-on (joining N (joined fuel es N) left acc first budget) (joining N (joined fuel′ es N) left acc first budget) es (λ e m.
+      flatMap-cong-on (joining N (joined fuel es N) left acc first budget)
+      (joining N (joined fuel′ es N) left acc first budget) es (λ e m.
       let some = some-step e m in
-      joining-same fuel fuel′ left acc first budget e (joined-fuel fuel fuel′ (left - e .length) (acc + e .input * 2 ^ (N - left)) (firstOr first (e .length)) (budget - e .weight) (omega arith) (omega arith) (omega arith)))
+      joining-same fuel fuel′ left acc first budget e (joined-fuel fuel fuel′ (left - e .length) (acc + e .input * 2 ^ (N - left))
+      (firstOr first (e .length)) (budget - e .weight) (omega arith) (omega arith) (omega arith)))
 
   -- ---- what one event of the table finds, by the decision on it
 
-  module _ (node e : Event) (is : Node N node) (able : Joinable N e) where
-    abbrev fits : Bool
-    fits = leb (e .length) (node .length) && leb (e .weight) (node .weight)
+  module _ (begun : Chain) (e : Event) (is : Unfinished N begun) (able : Joinable N e) where
+    abbrev fuel : ℕ
+    fuel = begun .steps - 1
 
-    abbrev whole : Bool
-    whole = eqb (e .length) (node .length)
+    abbrev longer : ℕ
+    longer = inputsOf begun + wordOf e * 2 ^ (N - begun .steps)
 
-    abbrev spent : Bool
-    spent = eqb (e .weight) (node .weight)
+    abbrev first″ : ℕ
+    first″ = firstOr (begun .first) (e .length)
 
-    abbrev enough : Bool
-    enough = leb (e .weight + fillAt work (node .length - e .length)) (node .weight)
+    by-unfit : T (not (fits work begun e)) → foundBy table work begun e ≡ []
+    unfolding foundBy errorEvent fitsIn
+    by-unfit =
+        joining-unfit fuel (begun .steps) (inputsOf begun) (begun .first) (begun .budget)
+        (errorEvent e) (is .within) (able .some-step)
 
-    fit-parts : T fits → (e .length ≤ node .length) × (e .weight ≤ node .weight)
-    fit-parts t =
-        let h = T-and (leb (e .length) (node .length)) (leb (e .weight) (node .weight)) .0 t in
-        (leb→le (e .length) (node .length) (h .0), leb→le (e .weight) (node .weight) (h .1))
+    by-whole : T (fits work begun e) → T (whole work begun e)
+        → foundBy table work begun e ≡ cond (spent work begun e) (turns N first″ longer) []
+    unfolding foundBy errorEvent fitsIn
+    by-whole =
+        joining-whole fuel (begun .steps) (inputsOf begun) (begun .first) (begun .budget)
+        (errorEvent e) (is .within) (able .some-step)
 
-    pub found-none : decided work node e ≡ 0 → foundBy table work node e ≡ []
-    unfolding decided foundBy errorEvent fitsIn
+    by-part : T (fits work begun e) → T (not (whole work begun e))
+        → foundBy table work begun e ≡ joined fuel es N (begun .steps - e .length) longer first″ (begun .budget - e .weight)
+    unfolding foundBy errorEvent fitsIn
+    by-part =
+        joining-part fuel (begun .steps) (inputsOf begun) (begun .first) (begun .budget)
+        (errorEvent e) (is .within) (able .some-step)
+
+    by-heavy : begun .budget < e .weight + fillAt work (begun .steps - e .length) → foundBy table work begun e ≡ []
+    unfolding foundBy errorEvent
+    by-heavy =
+        not-worth fuel (begun .steps) (inputsOf begun) (begun .first) (begun .budget)
+        (errorEvent e) (is .within) (able .some-step)
+
+    by-long : begun .steps < e .length → foundBy table work begun e ≡ []
+    by-long long = by-unfit (not-T (fits work begun e) (λ t. let f = fit-parts work begun e t .0 in omega arith))
+
+    pub found-none : decided work begun e ≡ skipped → foundBy table work begun e ≡ []
     found-none d =
-        ⊎-elim (joining-unfit (node .length - 1) (node .length) (wordOf node) (node .state) (node .weight) (errorEvent e) (is .within) (able .some-step))
-        (λ h. ⊎-elim (λ k. ended (k .0) (k .1)) (λ k. heavy (k .1)) h) (decision-0 fits whole spent enough d)
+        ⊎-elim by-unfit (λ h. ⊎-elim (λ k. ended (k .0) (k .1)) (λ k. by-heavy (nleb→lt _ _ (k .1))) h)
+        (decided-skipped work begun e d)
       where
-        heavy : T (not enough) → joining N (joined (node .length - 1) es N) (node .length) (wordOf node) (node .state) (node .weight) (errorEvent e) ≡ []
-        heavy t = not-worth (node .length - 1) (node .length) (wordOf node) (node .state) (node .weight) (errorEvent e) (is .within) (able .some-step) (nleb→lt _ _ t)
-
-        ended : T whole → T (not spent) → joining N (joined (node .length - 1) es N) (node .length) (wordOf node) (node .state) (node .weight) (errorEvent e) ≡ []
+        ended : T (whole work begun e) → T (not (spent work begun e)) → foundBy table work begun e ≡ []
         ended t s =
-            ⊎-elim (λ f. joining-whole (node .length - 1) (node .length) (wordOf node) (node .state) (node .weight) (errorEvent e) (is .within) (able .some-step) f t
-            ∙ cond-false spent (turns N (firstOr (node .state) (e .length)) (wordOf node + wordOf e * 2 ^ (N - node .length))) [] s)
-            (joining-unfit (node .length - 1) (node .length) (wordOf node) (node .state) (node .weight) (errorEvent e) (is .within) (able .some-step)) (passes-or-fails fits)
+            ⊎-elim (λ f. by-whole f t ∙ cond-false (spent work begun e) (turns N first″ longer) [] s) by-unfit
+            (passes-or-fails (fits work begun e))
 
-    pub found-last : decided work node e ≡ 1 → foundBy table work node e ≡ turns N (extended N node e .state) (wordOf (extended N node e))
-    unfolding decided foundBy errorEvent fitsIn extended
+    pub found-last : decided work begun e ≡ complete
+        → foundBy table work begun e ≡ turns N (extended N begun e .first) (inputsOf (extended N begun e))
+    unfolding extended
     found-last d =
-        let h = decision-1 fits whole spent enough d in
-        joining-whole (node .length - 1) (node .length) (wordOf node) (node .state) (node .weight) (errorEvent e) (is .within) (able .some-step) (h .0) (h .1 .0)
-        ∙ cond-true spent (turns N (firstOr (node .state) (e .length)) (wordOf node + wordOf e * 2 ^ (N - node .length))) [] (h .1 .1)
-        ∙ ap (turns N (firstOr (node .state) (e .length))) (sym (word-extended N node e))
+        let h = decided-complete work begun e d in
+        by-whole (h .0) (h .1 .0) ∙ cond-true (spent work begun e) (turns N first″ longer) [] (h .1 .1)
+        ∙ ap (turns N first″) (sym (word-extended N begun e))
 
-    pub found-more : (decided work node e ≡ 0 → ⊥) → (decided work node e ≡ 1 → ⊥) → foundBy table work node e ≡ found table work (extended N node e)
-    unfolding decided foundBy errorEvent fitsIn found extended
+    pub found-more : decided work begun e ≢ skipped → decided work begun e ≢ complete
+        → foundBy table work begun e ≡ found table work (extended N begun e)
+    unfolding found extended
     found-more n₀ n₁ =
-        let h = decision-2 fits whole spent enough (decided work node e) refl n₀ n₁ in
+        let h = decided-continued work begun e n₀ n₁ in
         let some = able .some-step in
         let inside = is .within in
         let left = is .some-left in
-        joining-part (node .length - 1) (node .length) (wordOf node) (node .state) (node .weight) (errorEvent e) (is .within) (able .some-step) (h .0) (h .1 .0)
-        ∙ joined-fuel (node .length - 1) (node .length - e .length) (node .length - e .length) (wordOf node + wordOf e * 2 ^ (N - node .length)) (firstOr (node .state) (e .length)) (node .weight - e .weight) (omega arith) (omega arith) (omega arith)
-        ∙ ap (λ (x : ℕ). joined (node .length - e .length) es N (node .length - e .length) x (firstOr (node .state) (e .length)) (node .weight - e .weight)) (sym (word-extended N node e))
+        by-part (h .0) (h .1 .0)
+        ∙ joined-fuel fuel (begun .steps - e .length) (begun .steps - e .length) longer first″ (begun .budget - e .weight)
+        (omega arith) (omega arith) (omega arith)
+        ∙ ap (λ (x : ℕ). joined (begun .steps - e .length) es N (begun .steps - e .length) x first″ (begun .budget - e .weight))
+        (sym (word-extended N begun e))
 
   -- ---- the events one after another
 
   -- what the event at place k finds
-  abbrev pub finds : Event → ℕ → List ℕ
-  finds node k = foundBy table work node (getD table k noEvent)
+  abbrev pub finds : Chain → ℕ → List ℕ
+  finds begun k = foundBy table work begun (getD table k noEvent)
 
   -- what the events from place k on find
-  unfoldable pub rest-from : Event → ℕ → List ℕ
-  rest-from node k = flatMap (finds node) (upFrom k (to - k))
+  unfoldable pub rest-from : Chain → ℕ → List ℕ
+  rest-from begun k = flatMap (finds begun) (upFrom k (to - k))
 
-  pub found-is-rest : (node : Event) → Node N node → found table work node ≡ rest-from node from
+  pub found-is-rest : (begun : Chain) → Unfinished N begun → found table work begun ≡ rest-from begun from
   unfolding found rest-from foundBy atHand joined
-  found-is-rest node is =
-      ap (λ (x : ℕ). joined x es N (node .length) (wordOf node) (node .state) (node .weight)) (suc-of (node .length) (is .some-left)) ∙ unrolled (node .length - 1)
+  found-is-rest begun is =
+      ap (λ (x : ℕ). joined x es N (begun .steps) (inputsOf begun) (begun .first) (begun .budget))
+      (suc-of (begun .steps) (is .some-left)) ∙ unrolled (begun .steps - 1)
     where
       suc-of : (n : ℕ) → 1 ≤ n → n ≡ suc (n - 1)
       suc-of n h = omega arith
 
-      unrolled : (fuel : ℕ) → joined (suc fuel) es N (node .length) (wordOf node) (node .state) (node .weight)
-          ≡ flatMap (λ k. joining N (joined fuel es N) (node .length) (wordOf node) (node .state) (node .weight) (errorEvent (getD table k noEvent))) (upFrom from (to - from))
-      unrolled fuel = flatMap-map (joining N (joined fuel es N) (node .length) (wordOf node) (node .state) (node .weight)) (λ k. errorEvent (getD table k noEvent)) (upFrom from (to - from))
+      unrolled : (fuel : ℕ) → joined (suc fuel) es N (begun .steps) (inputsOf begun) (begun .first) (begun .budget)
+          ≡ flatMap (λ k. joining N (joined fuel es N) (begun .steps) (inputsOf begun) (begun .first) (begun .budget)
+          (errorEvent (getD table k noEvent))) (upFrom from (to - from))
+      unrolled fuel =
+          flatMap-map (joining N (joined fuel es N) (begun .steps) (inputsOf begun) (begun .first) (begun .budget))
+          (λ k. errorEvent (getD table k noEvent)) (upFrom from (to - from))
 
-  pub rest-turn : (node : Event) (k : ℕ) → k < to → rest-from node k ≡ finds node k ++ rest-from node (k + 1)
+  pub rest-turn : (begun : Chain) (k : ℕ) → k < to → rest-from begun k ≡ finds begun k ++ rest-from begun (k + 1)
   unfolding rest-from upFrom flatMap
-  rest-turn node k h =
+  rest-turn begun k h =
       let n : to - k ≡ suc (to - (k + 1)) = omega arith in
       let s : suc k ≡ k + 1 = omega arith in
-      ap (λ (x : ℕ). flatMap (finds node) (upFrom k x)) n ∙ ap (λ (x : ℕ). finds node k ++ flatMap (finds node) (upFrom x (to - (k + 1)))) s
+      ap (λ (x : ℕ). flatMap (finds begun) (upFrom k x)) n
+      ∙ ap (λ (x : ℕ). finds begun k ++ flatMap (finds begun) (upFrom x (to - (k + 1)))) s
 
-  pub rest-over : (node : Event) (k : ℕ) → to ≤ k → rest-from node k ≡ []
+  pub rest-over : (begun : Chain) (k : ℕ) → to ≤ k → rest-from begun k ≡ []
   unfolding rest-from upFrom flatMap
-  rest-over node k h = ap (λ (x : ℕ). flatMap (finds node) (upFrom k x)) (none-of to k h)
+  rest-over begun k h = ap (λ (x : ℕ). flatMap (finds begun) (upFrom k x)) (none-of to k h)
     where
       none-of : (x y : ℕ) → x ≤ y → x - y ≡ 0
       none-of x y g = omega arith
 
   -- events that find nothing are skipped
-  pub rest-skips : (node : Event) (n k : ℕ) → k + n ≤ to → ((x : ℕ) → k ≤ x → x < k + n → finds node x ≡ []) → rest-from node k ≡ rest-from node (k + n)
-  rest-skips node zero k h none = ap (rest-from node) (sym (add-zero k))
-  rest-skips node (suc n) k h none =
-      rest-turn node k (omega arith) ∙ ap (λ (l : List ℕ). l ++ rest-from node (k + 1)) (none k (omega arith) (omega arith))
-      ∙ rest-skips node n (k + 1) (omega arith) (λ x g g′. none x (omega arith) (omega arith)) ∙ ap (rest-from node) (shift k n)
+  pub rest-skips : (begun : Chain) (n k : ℕ) → k + n ≤ to → ((x : ℕ) → k ≤ x → x < k + n → finds begun x ≡ [])
+      → rest-from begun k ≡ rest-from begun (k + n)
+  rest-skips begun zero k h none = ap (rest-from begun) (sym (add-zero k))
+  rest-skips begun (suc n) k h none =
+      rest-turn begun k (omega arith) ∙ ap (λ (l : List ℕ). l ++ rest-from begun (k + 1)) (none k (omega arith) (omega arith))
+      ∙ rest-skips begun n (k + 1) (omega arith) (λ x g g′. none x (omega arith) (omega arith)) ∙ ap (rest-from begun) (shift k n)
     where
       shift : (a b : ℕ) → a + 1 + b ≡ a + suc b
       shift a b = omega arith
 
   -- an event too long for the steps left, or too heavy for what the tables say of its length
-  pub finds-none : (node : Event) → Node N node → (k : ℕ) → from ≤ k → k < to
-      → (node .length < getD table k noEvent .length) ⊎ (node .weight < leastAt work (getD table k noEvent .length) + fillAt work (node .length - getD table k noEvent .length)) → finds node k ≡ []
-  unfolding foundBy errorEvent fitsIn
-  finds-none node is k h g why =
-      let e : Event = getD table k noEvent in
+  pub finds-none : (begun : Chain) → Unfinished N begun → (k : ℕ) → from ≤ k → k < to
+      → Useless work (begun .steps) (begun .budget) (getD table k noEvent .length) → finds begun k ≡ []
+  finds-none begun is k h g why =
       let able = joins .joinable k h g in
       let lightest = joins .ready .least-weighs k h g in
-      ⊎-elim (λ long. joining-unfit (node .length - 1) (node .length) (wordOf node) (node .state) (node .weight) (errorEvent e) (is .within) (able .some-step)
-      (not-T (leb (e .length) (node .length) && leb (e .weight) (node .weight)) (λ t. let f = leb→le (e .length) (node .length) (T-and (leb (e .length) (node .length)) (leb (e .weight) (node .weight)) .0 t .0) in omega arith)))
-      (λ heavy. not-worth (node .length - 1) (node .length) (wordOf node) (node .state) (node .weight) (errorEvent e) (is .within) (able .some-step) (omega arith)) why
+      ⊎-elim (by-long begun (getD table k noEvent) is able)
+      (λ heavy. by-heavy begun (getD table k noEvent) is able (omega arith)) why

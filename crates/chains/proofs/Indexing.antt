@@ -13,10 +13,11 @@ use Rattle.order.specs.Order.{Order}
 use Rattle.events.specs.declared.Event.{Event}
 use Rattle.events.specs.Events.{ErrorEvent, events, entry, noEvent, eventTable}
 use Rattle.events.proofs.Listed.{Listed, Before, of-events, events-sorted}
-use Rattle.bounds.specs.Tables.{firstOf, bitsAt, surveyed, indexed, Segment}
-use Rattle.bounds.proofs.Kept.{Noteworthy, length-indexed, length-surveyed}
+use Rattle.bounds.specs.Model.Places.{mostSteps, stateCount, areaSize}
+use Rattle.bounds.specs.Model.Tables.{firstOf, bitsAt, surveyed, indexed, Segment}
+use Rattle.bounds.proofs.Kept.{Noteworthy, surveyed-keeps, indexed-keeps}
 use Rattle.bounds.proofs.States.{states-indexed, firstOf-rises, firstOf-last, states-between, states-bits, states-fill}
-use Rattle.chains.specs.Chaining.{wordOf, Joinable, Indexed}
+use Rattle.chains.specs.Model.Chaining.{mostWeight, wordOf, Joinable, Indexed}
 use Rattle.chains.proofs.Slices.{getD-in, sorted-at}
 use Rattle.chains.proofs.Listed.{noErrorEvent, Delimits}
 
@@ -29,11 +30,17 @@ entry-length : (e : ErrorEvent) → entry e .length ≡ e .length
 unfolding entry
 entry-length e = refl
 
-entry-joinable : (o : Order) (e : ErrorEvent) → o .d ≤ 64 → Listed o e → Joinable (o .N) (entry e)
+entry-joinable : (o : Order) (e : ErrorEvent) → o .d ≤ mostWeight → Listed o e → Joinable (o .N) (entry e)
 unfolding entry
 entry-joinable o e light h =
     let b = h .below in
-    record { some-step = h .some-step; short = h .at-most-N; light = omega arith; input-small = subst (λ (x : ℕ). x < 2 ^ e .length) (sym (halves (e .input))) (h .input-fits) }
+    record {
+      some-step = h .some-step;
+      short = h .at-most-N;
+      light = omega arith;
+      input-small = subst
+          (λ (x : ℕ). x < 2 ^ e .length) (sym (halves (e .input))) (h .input-fits);
+    }
   where
     halves : (c : ℕ) → wordOf (entry (record { state = e .state; length = e .length; weight = e .weight; input = c })) ≡ c
     halves c = omega arith
@@ -47,7 +54,8 @@ before-lengths e f same (inl h) = absurd (omega arith)
 before-lengths e f same (inr (q, inl h)) = omega arith
 before-lengths e f same (inr (q, inr h)) = let l = h .0 in omega arith
 
-module _ (o : Order) (some-bits : 1 ≤ o .N) (few-bits : o .N ≤ 128) (memory : o .v ≤ 8) (light : o .d ≤ 64) (table : List Event) (size : ℕ) (room : 8192 ≤ size) (fits : length (events o) ≤ length table)
+module _ (o : Order) (some-bits : 1 ≤ o .N) (few-bits : o .N ≤ mostSteps) (memory : o .v ≤ 8) (light : o .d ≤ mostWeight)
+    (table : List Event) (size : ℕ) (room : areaSize ≤ size) (fits : length (events o) ≤ length table)
     (entries : (k : ℕ) → k < length (events o) → getD table k noEvent ≡ entry (getD (events o) k noErrorEvent)) where
   abbrev count : ℕ
   count = length (events o)
@@ -58,7 +66,7 @@ module _ (o : Order) (some-bits : 1 ≤ o .N) (few-bits : o .N ≤ 128) (memory 
   abbrev work : List ℕ
   work = indexed (o .N) (surveyed table count 0 (replicate size 0))
 
-  few-states : 2 ^ o .v ≤ 256
+  few-states : 2 ^ o .v ≤ stateCount
   few-states = pow-mono {i = o .v} {j = 8} memory
 
   known : (k : ℕ) → k < count → Listed o (event k)
@@ -73,13 +81,17 @@ module _ (o : Order) (some-bits : 1 ≤ o .N) (few-bits : o .N ≤ 128) (memory 
   before-at : (k l : ℕ) → k < l → l < count → Before (event k) (event l)
   before-at k l h g = sorted-at noErrorEvent Before (events o) (events-sorted o) k l h g
 
-  state-small : (k : ℕ) → k < count → getD table k noEvent .state < 256
-  state-small k h = subst (λ (x : ℕ). x < 256) (sym (state-at k h)) (lt-of-lt-of-le (known k h .state-fits) few-states)
+  state-small : (k : ℕ) → k < count → getD table k noEvent .state < stateCount
+  state-small k h = subst (λ (x : ℕ). x < stateCount) (sym (state-at k h)) (lt-of-lt-of-le (known k h .state-fits) few-states)
 
   pub noteworthy : Noteworthy table count 0
   noteworthy k h g =
       let in-table : k < count = omega arith in
-      (state-small k in-table, subst (λ (x : ℕ). x ≤ 128) (sym (length-at k in-table)) (le-trans (known k in-table .at-most-N) few-bits))
+      record {
+        state-small = state-small k in-table;
+        length-small = subst (λ (x : ℕ). x ≤ mostSteps) (sym (length-at k in-table))
+            (le-trans (known k in-table .at-most-N) few-bits);
+      }
 
   ordered : (k l : ℕ) → k < l → l < count → getD table k noEvent .state ≤ getD table l noEvent .state
   ordered k l h g =
@@ -88,24 +100,28 @@ module _ (o : Order) (some-bits : 1 ≤ o .N) (few-bits : o .N ≤ 128) (memory 
       let c = before-states (event k) (event l) (before-at k l h g) in
       omega (arith, a, b, c)
 
-  last : (i : ℕ) → i ≤ 256 → firstOf work i ≤ count
+  last : (i : ℕ) → i ≤ stateCount → firstOf work i ≤ count
   last = firstOf-last table count (o .N) size room noteworthy ordered
 
-  between : (k s : ℕ) → s < 256 → firstOf work s ≤ k → k < firstOf work (s + 1) → getD table k noEvent .state ≡ s
+  between : (k s : ℕ) → s < stateCount → firstOf work s ≤ k → k < firstOf work (s + 1) → getD table k noEvent .state ≡ s
   between = states-between table count (o .N) size room noteworthy ordered
 
   bits-are : bitsAt work ≡ o .N
   bits-are = states-bits table count (o .N) size room noteworthy ordered
 
-  segment : (i : ℕ) → i < 256 → Segment table (o .N) (firstOf work i) (firstOf work (i + 1))
+  segment : (i : ℕ) → i < stateCount → Segment table (o .N) (firstOf work i) (firstOf work (i + 1))
   segment i h = record {
     states = λ k a b. state-small k (in-table k b);
     lengths = λ k a b.
-        let e = known k (in-table k b) in
-        (subst (λ (x : ℕ). 1 ≤ x) (sym (length-at k (in-table k b))) (e .some-step), subst (λ (x : ℕ). x ≤ o .N) (sym (length-at k (in-table k b))) (e .at-most-N));
+        let e = known k (in-table k b) in (
+          subst (λ (x : ℕ). 1 ≤ x) (sym (length-at k (in-table k b))) (e .some-step),
+          subst (λ (x : ℕ). x ≤ o .N)
+              (sym (length-at k (in-table k b))) (e .at-most-N),
+        );
     ordered = λ k l a c b.
         let k-in : k < count = in-table k (omega arith) in
-        let same : event k .state ≡ event l .state = sym (state-at k k-in) ∙ between k i h a (omega arith) ∙ sym (between l i h (omega arith) b) ∙ state-at l (in-table l b) in
+        let same : event k .state ≡ event l .state = sym (state-at k k-in) ∙ between k i h a (omega arith)
+        ∙ sym (between l i h (omega arith) b) ∙ state-at l (in-table l b) in
         let p = length-at k k-in in
         let q = length-at l (in-table l b) in
         let r = before-lengths (event k) (event l) same (before-at k l c (in-table l b)) in
@@ -117,16 +133,19 @@ module _ (o : Order) (some-bits : 1 ≤ o .N) (few-bits : o .N ≤ 128) (memory 
 
   index : Indexed table work
   index = record {
-    enough = let a = length-indexed (o .N) (surveyed table count 0 (replicate size 0)) in let b = length-surveyed table count 0 (replicate size 0) in let c = length-replicate {A = ℕ} size 0 in omega (arith, a, b, c, room);
+    enough = let a = indexed-keeps (o .N) (surveyed table count 0 (replicate size 0)) .size in
+        let b = surveyed-keeps table count 0 (replicate size 0) noteworthy .size in let c =
+        length-replicate {A = ℕ} size 0 in omega (arith, a, b, c, room);
     some-bits = subst (λ (x : ℕ). 1 ≤ x) (sym bits-are) some-bits;
-    few-bits = subst (λ (x : ℕ). x ≤ 128) (sym bits-are) few-bits;
+    few-bits = subst (λ (x : ℕ). x ≤ mostSteps) (sym bits-are) few-bits;
     fill-small = λ k h. let z = states-fill table count (o .N) size room noteworthy ordered k h in omega (arith, z);
     rises = firstOf-rises table count (o .N) size room noteworthy ordered;
-    inside = le-trans (last 256 (omega arith)) fits;
+    inside = le-trans (last stateCount (omega arith)) fits;
     segment = λ i h. subst (λ (x : ℕ). Segment table x (firstOf work i) (firstOf work (i + 1))) (sym bits-are) (segment i h);
     joinable = λ k h.
-        let in-table : k < count = lt-of-lt-of-le h (last 256 (omega arith)) in
-        subst (λ (x : ℕ). Joinable x (getD table k noEvent)) (sym bits-are) (subst (Joinable (o .N)) (sym (entries k in-table)) (entry-joinable o (event k) light (known k in-table)));
+        let in-table : k < count = lt-of-lt-of-le h (last stateCount (omega arith)) in
+        subst (λ (x : ℕ). Joinable x (getD table k noEvent)) (sym bits-are) (subst (Joinable (o .N)) (sym (entries k in-table))
+        (entry-joinable o (event k) light (known k in-table)));
   }
 
   pub delimits-order : Delimits o table work
@@ -141,8 +160,10 @@ module _ (o : Order) (some-bits : 1 ≤ o .N) (few-bits : o .N ≤ 128) (memory 
   }
 
 -- a table that an accepted call filled has these entries
-pub entries-listed : (o : Order) (size : ℕ) (k : ℕ) → k < length (events o) → getD (eventTable size o) k noEvent ≡ entry (getD (events o) k noErrorEvent)
+pub entries-listed : (o : Order) (size : ℕ) (k : ℕ) → k < length (events o)
+    → getD (eventTable size o) k noEvent ≡ entry (getD (events o) k noErrorEvent)
 unfolding eventTable entry noEvent
 entries-listed o size k h =
     let same : length (map entry (events o)) ≡ length (events o) = length-map (events o) entry in
-    getD-padded-inside size noEvent (map entry (events o)) k noEvent (omega (arith, same, h)) ∙ List·getD-map entry (events o) k noErrorEvent
+    getD-padded-inside size noEvent (map entry (events o)) k noEvent (omega (arith, same, h))
+    ∙ List·getD-map entry (events o) k noErrorEvent

@@ -1,12 +1,6 @@
-pub mod Gather
-pub mod Told
 pub mod Found
-pub mod Nodes
-pub mod Starts
-pub mod Standing
-pub mod Surveying
+pub mod Unfinished
 pub mod States
-pub mod Listing
 pub mod Slices
 pub mod Listed
 pub mod Indexing

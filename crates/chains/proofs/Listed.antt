@@ -1,7 +1,7 @@
--- What the chaining finds is what the model of the recursion joins (`paths`' specs/Chains.antt), where the table holds an order's events and the work
+-- What the chaining finds is what the model of the recursion joins (`paths`' specs/Model/Joining.antt), where the table holds an order's events and the work
 -- area tells where each state's begin: state by state (`found-is-stateWords`), and over all states (`foundFrom-is-chainWords`).
 -- Assumes nothing.
-use Prim.Native.Nat.{ℕ, zero, suc, _+_, _-_, _/_, _^_, _≤_, _<_}
+use Prim.Native.Nat.{ℕ, zero, suc, _+_, _-_, _^_, _≤_, _<_}
 use native.Mathlib.Nat.{lt-of-lt-of-le}
 use native.Mathlib.Numerals.{add-one}
 use native.Mathlib.Omega.{arith}
@@ -19,9 +19,10 @@ use Rattle.events.specs.declared.Event.{Event}
 use Rattle.events.specs.Events.{ErrorEvent, eventsOfLength, eventsOfState, events, entry, noEvent}
 use Rattle.events.proofs.Listed.{Before, of-events, in-events, of-eventsOfLength, eventsOfLength-sorted, events-sorted}
 use Rattle.events.proofs.OfState.{EventOf, mem-eventsOfState}
-use Rattle.paths.specs.Chains.{joined, stateWords, chainWords}
-use Rattle.bounds.specs.Tables.{firstOf, bitsAt}
-use Rattle.chains.specs.Chaining.{errorEvent, atHand, atState, afterStates, found, foundFrom, wholeNode, Indexed}
+use Rattle.paths.specs.Model.Joining.{joined, stateWords, chainWords}
+use Rattle.bounds.specs.Model.Places.{stateCount}
+use Rattle.bounds.specs.Model.Tables.{firstOf, bitsAt}
+use Rattle.chains.specs.Model.Chaining.{errorEvent, atHand, atState, afterStates, found, foundFrom, unbegun, Indexed}
 use Rattle.chains.proofs.Slices.{getD-in, PlaceOf, place-of, sorted-at, range-sorted}
 use Rattle.chains.proofs.States.{start-atState, end-atState, bits-atState, first-atState, indexed-at-state}
 
@@ -32,16 +33,18 @@ noErrorEvent = record { state = 0; length = 0; weight = 0; input = 0 }
 pub record Delimits (o : Order) (table : List Event) (work : List ℕ) : Type 0 where
   pub indexed : Indexed table work
   pub bits : bitsAt work ≡ o .N
-  pub few-states : 2 ^ o .v ≤ 256
+  pub few-states : 2 ^ o .v ≤ stateCount
   pub entries : (k : ℕ) → k < length (events o) → getD table k noEvent ≡ entry (getD (events o) k noErrorEvent)
-  pub last : (i : ℕ) → i ≤ 256 → firstOf work i ≤ length (events o)
-  pub placed : (k : ℕ) → k < length (events o) → (firstOf work (getD table k noEvent .state) ≤ k) × (k < firstOf work (getD table k noEvent .state + 1))
-  pub between : (k s : ℕ) → s < 256 → firstOf work s ≤ k → k < firstOf work (s + 1) → getD table k noEvent .state ≡ s
+  pub last : (i : ℕ) → i ≤ stateCount → firstOf work i ≤ length (events o)
+  pub placed : (k : ℕ) → k < length (events o)
+      → (firstOf work (getD table k noEvent .state) ≤ k) × (k < firstOf work (getD table k noEvent .state + 1))
+  pub between : (k s : ℕ) → s < stateCount → firstOf work s ≤ k → k < firstOf work (s + 1) → getD table k noEvent .state ≡ s
 
 -- an entry of the table is the event that it was made of
 errorEvent-entry : (e : ErrorEvent) → errorEvent (entry e) ≡ e
 unfolding errorEvent entry
-errorEvent-entry e = ap (λ (x : ℕ). record { state = e .state; length = e .length; weight = e .weight; input = x }) (split (e .input) 64)
+errorEvent-entry e =
+    ap (λ (x : ℕ). record { state = e .state; length = e .length; weight = e .weight; input = x }) (split (e .input) 64)
 
 state-entry : (e : ErrorEvent) → entry e .state ≡ e .state
 unfolding entry
@@ -61,7 +64,8 @@ within-state e f same (inr h) = h .1
 state-sorted : (o : Order) (i : ℕ) → Sorted Within (eventsOfState o i)
 unfolding eventsOfState
 state-sorted o i =
-    blocks-sorted (λ e. e .length) (By (λ e. e .input)) (eventsOfLength o i) (λ l e m. sym (ap (λ (f : ErrorEvent). f .length) (of-eventsOfLength o i l m .3)))
+    blocks-sorted (λ e. e .length) (By (λ e. e .input)) (eventsOfLength o i)
+    (λ l e m. sym (ap (λ (f : ErrorEvent). f .length) (of-eventsOfLength o i l m .3)))
     (eventsOfLength-sorted o i) (upFrom 1 (o .N)) (upFrom-sorted 1 (o .N))
 
 module _ (o : Order) (table : List Event) (work : List ℕ) (d : Delimits o table work) where
@@ -83,7 +87,7 @@ module _ (o : Order) (table : List Event) (work : List ℕ) (d : Delimits o tabl
   state-is k h = ap (λ (e : Event). e .state) (d .entries k h) ∙ state-entry (event k)
 
   module _ (i : ℕ) (low : i < 2 ^ o .v) where
-    inside : i < 256
+    inside : i < stateCount
     inside = lt-of-lt-of-le low (d .few-states)
 
     abbrev from : ℕ
@@ -111,7 +115,8 @@ module _ (o : Order) (table : List Event) (work : List ℕ) (d : Delimits o tabl
         let k-in : k < count = before-count k (omega arith) in
         let l-in : l < count = before-count l m in
         let b : Before (event k) (event l) = sorted-at noErrorEvent Before (events o) (events-sorted o) k l g l-in in
-        let w : Within (event k) (event l) = within-state (event k) (event l) (of-state k h (omega arith) ∙ sym (of-state l (omega arith) m)) b in
+        let w : Within (event k) (event l) =
+        within-state (event k) (event l) (of-state k h (omega arith) ∙ sym (of-state l (omega arith) m)) b in
         subst (λ (x : ErrorEvent). Within x (read l)) (sym (read-is k k-in)) (subst (Within (event k)) (sym (read-is l l-in)) w))
 
     of-slice : (e : ErrorEvent) → List·Memᴰ e slice → EventOf o i e
@@ -121,67 +126,88 @@ module _ (o : Order) (table : List Event) (work : List ℕ) (d : Delimits o tabl
         let b = upFrom-bounds from (to - from) (h .1) in
         let at : h .0 < count = before-count (h .0) (b .1) in
         let is : event (h .0) ≡ e = sym (read-is (h .0) at) ∙ h .2 in
-        subst (EventOf o i) is record { state-is = of-state (h .0) (b .0) (b .1); event = of-events o (getD-in noErrorEvent (events o) (h .0) at) }
+        subst (EventOf o i) is record {
+          state-is = of-state (h .0) (b .0) (b .1);
+          event = of-events o
+              (getD-in noErrorEvent (events o) (h .0) at);
+        }
 
     in-slice : (e : ErrorEvent) → EventOf o i e → List·Memᴰ e slice
     unfolding slice
     in-slice e h =
         let p : PlaceOf noErrorEvent (events o) e = place-of noErrorEvent (events o) (in-events o (h .event)) in
         let k : ℕ = p .place in
-        let same : getD table k noEvent .state ≡ i = state-is k (p .inside) ∙ ap (λ (x : ErrorEvent). x .state) (p .is) ∙ h .state-is in
+        let same : getD table k noEvent .state ≡ i =
+        state-is k (p .inside) ∙ ap (λ (x : ErrorEvent). x .state) (p .is) ∙ h .state-is in
         let at = d .placed k (p .inside) in
         let a : from ≤ k = subst (λ (s : ℕ). firstOf work s ≤ k) same (at .0) in
         let b : k < to = subst (λ (s : ℕ). k < firstOf work (s + 1)) same (at .1) in
-        subst (λ (x : ErrorEvent). List·Memᴰ x (map read (upFrom from (to - from)))) (read-is k (p .inside) ∙ p .is) (Memᴰ·map read (in-upFrom from (to - from) a (omega arith)))
+        subst (λ (x : ErrorEvent). List·Memᴰ x (map read (upFrom from (to - from)))) (read-is k (p .inside) ∙ p .is)
+        (Memᴰ·map read (in-upFrom from (to - from) a (omega arith)))
 
     slice-is : slice ≡ eventsOfState o i
-    slice-is = sorted-known Within within-asymmetric (EventOf o i) slice (eventsOfState o i) slice-sorted (state-sorted o i) (λ e. (of-slice e, in-slice e)) (λ e. mem-eventsOfState o i e low)
+    slice-is =
+        sorted-known Within within-asymmetric (EventOf o i) slice (eventsOfState o i) slice-sorted (state-sorted o i)
+        (λ e. (of-slice e, in-slice e)) (λ e. mem-eventsOfState o i e low)
 
     pub at-hand-is : atHand table (atState table i work) ≡ eventsOfState o i
     unfolding atHand slice read
     at-hand-is =
-        ap₂ (λ (x y : ℕ). map (λ k. errorEvent (getD table k noEvent)) (upFrom x (y - x))) (start-atState table work (d .indexed) i inside) (end-atState table work (d .indexed) i inside) ∙ slice-is
+        ap₂ (λ (x y : ℕ). map (λ k. errorEvent (getD table k noEvent)) (upFrom x (y - x))) (start-atState (d .indexed) i inside)
+        (end-atState (d .indexed) i inside) ∙ slice-is
 
-    pub found-is-stateWords : (w : ℕ) → found table (atState table i work) (wholeNode (bitsAt work) w) ≡ stateWords o i w
-    unfolding found wholeNode stateWords
+    pub found-is-stateWords : (w : ℕ) → found table (atState table i work) (unbegun (bitsAt work) w) ≡ stateWords o i w
+    unfolding found unbegun stateWords
     found-is-stateWords w =
-        ap₂ (λ (es : List ErrorEvent) (N : ℕ). joined (bitsAt work) es N (bitsAt work) 0 0 w) at-hand-is (bits-atState table work (d .indexed) i inside)
+        ap₂ (λ (es : List ErrorEvent) (N : ℕ). joined (bitsAt work) es N (bitsAt work) 0 0 w) at-hand-is
+        (bits-atState (d .indexed) i inside)
         ∙ ap (λ (N : ℕ). joined N (eventsOfState o i) N N 0 0 w) (d .bits)
 
     -- the next state finds the same index
     pub delimits-next : Delimits o table (atState table i work)
     delimits-next =
-        let same : (j : ℕ) → j ≤ 256 → firstOf (atState table i work) j ≡ firstOf work j = first-atState table work (d .indexed) i inside in
+        let same : (j : ℕ) → j ≤ stateCount → firstOf (atState table i work) j ≡ firstOf work j =
+        first-atState (d .indexed) i inside in
         record {
-          indexed = indexed-at-state table work (d .indexed) i inside;
-          bits = bits-atState table work (d .indexed) i inside ∙ d .bits;
+          indexed = indexed-at-state (d .indexed) i inside;
+          bits = bits-atState (d .indexed) i inside ∙ d .bits;
           few-states = d .few-states;
           entries = d .entries;
           last = λ j h. subst (λ (x : ℕ). x ≤ count) (sym (same j h)) (d .last j h);
           placed = λ k h.
               let s : ℕ = getD table k noEvent .state in
-              let s-in : s < 256 = subst (λ (x : ℕ). x < 256) (sym (state-is k h)) (lt-of-lt-of-le (of-events o (getD-in noErrorEvent (events o) k h) .state-fits) (d .few-states)) in
-              let at = d .placed k h in
-              (subst (λ (x : ℕ). x ≤ k) (sym (same s (omega arith))) (at .0), subst (λ (x : ℕ). k < x) (sym (same (s + 1) (omega arith))) (at .1));
-          between = λ k s h a b. d .between k s h (subst (λ (x : ℕ). x ≤ k) (same s (omega arith)) a) (subst (λ (x : ℕ). k < x) (same (s + 1) (omega arith)) b);
+              let s-in : s < stateCount = subst (λ (x : ℕ). x < stateCount) (sym (state-is k h))
+              (lt-of-lt-of-le (of-events o (getD-in noErrorEvent (events o) k h) .state-fits) (d .few-states)) in
+              let at = d .placed k h in (
+                subst (λ (x : ℕ). x ≤ k) (sym (same s (omega arith))) (at .0),
+                subst (λ (x : ℕ). k < x)
+                    (sym (same (s + 1) (omega arith))) (at .1),
+              );
+          between = λ k s h a b. d .between k s h (subst (λ (x : ℕ). x ≤ k) (same s (omega arith)) a)
+              (subst (λ (x : ℕ). k < x) (same (s + 1) (omega arith)) b);
         }
 
 -- n states from state i on
-found-from : (o : Order) (table : List Event) (w n i : ℕ) (work : List ℕ) → Delimits o table work → i + n ≤ 2 ^ o .v → foundFrom table w n i work ≡ flatMap (λ j. stateWords o j w) (upFrom i n)
+found-from : (o : Order) (table : List Event) (w n i : ℕ) (work : List ℕ) → Delimits o table work → i + n ≤ 2 ^ o .v
+    → foundFrom table w n i work ≡ flatMap (λ j. stateWords o j w) (upFrom i n)
 unfolding foundFrom upFrom flatMap
 found-from o table w zero i work d h = refl
 found-from o table w (suc n) i work d h =
     let low : i < 2 ^ o .v = omega arith in
     ap₂ _++_ (found-is-stateWords o table work d i low w)
-    (ap (λ (x : ℕ). foundFrom table w n x (atState table i work)) (add-one i) ∙ found-from o table w n (suc i) (atState table i work) (delimits-next o table work d i low) (omega arith))
+    (ap (λ (x : ℕ). foundFrom table w n x (atState table i work)) (add-one i) ∙ found-from o table w n (suc i)
+    (atState table i work) (delimits-next o table work d i low) (omega arith))
 
 -- the index stays, however many states were at hand
-pub delimits-after : (o : Order) (table : List Event) (n i : ℕ) (work : List ℕ) → Delimits o table work → i + n ≤ 2 ^ o .v → Delimits o table (afterStates table n i work)
+pub delimits-after : (o : Order) (table : List Event) (n i : ℕ) (work : List ℕ) → Delimits o table work → i + n ≤ 2 ^ o .v
+    → Delimits o table (afterStates table n i work)
 unfolding afterStates
 delimits-after o table zero i work d h = d
-delimits-after o table (suc n) i work d h = delimits-after o table n (i + 1) (atState table i work) (delimits-next o table work d i (omega arith)) (omega arith)
+delimits-after o table (suc n) i work d h =
+    delimits-after o table n (i + 1) (atState table i work) (delimits-next o table work d i (omega arith)) (omega arith)
 
-pub foundFrom-is-chainWords : (o : Order) (table : List Event) (work : List ℕ) (w : ℕ) → Delimits o table work → foundFrom table w (2 ^ o .v) 0 work ≡ chainWords o w
+pub foundFrom-is-chainWords : (o : Order) (table : List Event) (work : List ℕ) (w : ℕ) → Delimits o table work
+    → foundFrom table w (2 ^ o .v) 0 work ≡ chainWords o w
 unfolding chainWords
 foundFrom-is-chainWords o table work w d = found-from o table w (2 ^ o .v) 0 work d (all (2 ^ o .v))
   where

@@ -27,19 +27,22 @@ module _ {A : Type 0} (d : A) where
   place-of [] m = absurd (List·Memᴰ·not-nil m)
   place-of (y ∷ ys) {x} m =
       ⊎-elim (λ (e : x ≡ y). record { place = zero; inside = first (length ys); is = sym e })
-      (λ (m′ : List·Memᴰ x ys). let r = place-of ys m′ in let h = r .inside in record { place = suc (r .place); inside = omega arith; is = r .is }) (List·Memᴰ·cases-cons m)
+      (λ (m′ : List·Memᴰ x ys). let r = place-of ys m′ in let h = r .inside in
+      record { place = suc (r .place); inside = omega arith; is = r .is }) (List·Memᴰ·cases-cons m)
     where
       first : (n : ℕ) → 0 < suc n
       first n = omega arith
 
-  pub sorted-at : (R : A → A → Type 0) (xs : List A) → Sorted R xs → (k l : ℕ) → k < l → l < length xs → R (getD xs k d) (getD xs l d)
+  pub sorted-at : (R : A → A → Type 0) (xs : List A) → Sorted R xs → (k l : ℕ) → k < l
+      → l < length xs → R (getD xs k d) (getD xs l d)
   sorted-at R [] s k l h g = absurd (not-suc-le-zero g)
   sorted-at R (x ∷ xs) s k zero h g = absurd (not-suc-le-zero h)
   sorted-at R (x ∷ xs) s zero (suc l) h g = s .0 (getD xs l d) (getD-in xs l (le-of-suc-le-suc g))
   sorted-at R (x ∷ xs) s (suc k) (suc l) h g = sorted-at R xs (s .1) k l (le-of-suc-le-suc h) (le-of-suc-le-suc g)
 
 -- what stands at the places of a range, one after another
-pub range-sorted : {A : Type 0} (R : A → A → Type 0) (f : ℕ → A) (from n : ℕ) → ((k l : ℕ) → from ≤ k → k < l → l < from + n → R (f k) (f l)) → Sorted R (map f (upFrom from n))
+pub range-sorted : {A : Type 0} (R : A → A → Type 0) (f : ℕ → A) (from n : ℕ)
+    → ((k l : ℕ) → from ≤ k → k < l → l < from + n → R (f k) (f l)) → Sorted R (map f (upFrom from n))
 unfolding upFrom
 range-sorted R f from zero ordered = tt
 range-sorted R f from (suc n) ordered = (

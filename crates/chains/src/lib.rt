@@ -1,14 +1,18 @@
 // Chains of events of one state, joined one after another until their lengths sum to N (document 01); the rotations of each chain are appended to the
 // path table. The tables of `bounds`, kept in the work area, tell which events are worth joining.
 ghost use mathlib.Core.Path.{_≡_};
-ghost use Prim.Native.Nat.{_+_, _-_, _≤_, _<_, _^_};
-ghost use lib.ListN.{length, getD};
-ghost use Rattle.events.specs.Events.{noEvent};
-ghost use Rattle.paths.specs.Paths.{pathRoom};
-ghost use Rattle.paths.specs.Chains.{turns, firstOr};
-ghost use Rattle.bounds.specs.Tables.{bitsAt, endAt, surveyed, Small};
-ghost use Rattle.rotations.specs.Put.{puts};
-ghost use Rattle.chains.specs.Chaining.{wordOf, extended, found, foundBy, wholeNode, stateListed, weightListed, Joinable, Joins, Node, Noted, Indexed};
+ghost use Prim.Native.Nat.{_-_, _≤_, _<_};
+ghost use lib.ListN.{length};
+ghost use Rattle.paths.specs.Model.Joining.{turns, firstOr};
+ghost use Rattle.bounds.specs.Model.Places.{areaSize};
+ghost use Rattle.bounds.specs.Model.Tables.{bitsAt, endAt, surveyed, Small};
+ghost use Rattle.rotations.specs.Model.Put.{puts};
+ghost use Rattle.chains.specs.Model.Chaining.{inputsOf, extended, found, foundBy, unbegun, stateListed, weightListed, Noted, ToExtend, ToEmit, ToJoin, ToChain, ToListState, ToListWeight};
+use bounds::BITS_AT;
+use bounds::COMPLETE;
+use bounds::Chain;
+use bounds::END_AT;
+use bounds::SKIPPED;
 use bounds::begin;
 use bounds::close_state;
 use bounds::decide;
@@ -17,18 +21,12 @@ use bounds::follow;
 use bounds::note;
 use bounds::open_state;
 use events::Event;
+use events::event_at;
 use poly::word::make;
 use rotations::join_input;
 use rotations::push_turns;
 
-fn event_at(events: &[Event], k: usize) -> Event
-    requires { ⌜ k < length (now events) ⌝ }
-    ensures { λ r. ⌜ r ≡ getD (now (events .entry)) k noEvent ⌝ }
-{
-    events[k]
-}
-
-// ---- a chain begun, which is kept as an entry of the event table
+// ---- a chain begun
 
 // The length of the first event, once there is one.
 fn first_or(first: u64, l: u64) -> u64
@@ -41,39 +39,39 @@ fn first_or(first: u64, l: u64) -> u64
 }
 
 // Event e joined to it.
-fn extend(work: &[u64], node: Event, e: Event) -> Event
-    requires { ⌜ Small (now work) × (Node (bitsAt (now work)) node × (Joinable (bitsAt (now work)) e × ((e .length ≤ node .length) × (e .weight ≤ node .weight)))) ⌝ }
-    ensures { λ r. ⌜ r ≡ extended (bitsAt (now (work .entry))) node e ⌝ }
+fn extend(work: &[u64], begun: Chain, e: Event) -> Chain
+    requires { ⌜ ToExtend (now work) begun e ⌝ }
+    ensures { λ r. ⌜ r ≡ extended (bitsAt (now (work .entry))) begun e ⌝ }
 {
-    let place = work[2048] - node.length;
-    let w = join_input(make(node.low, node.high), make(e.low, e.high), place);
-    Event {
-        state: first_or(node.state, e.length),
-        length: node.length - e.length,
-        weight: node.weight - e.weight,
+    let place = work[BITS_AT] - begun.steps;
+    let w = join_input(make(begun.low, begun.high), make(e.low, e.high), place);
+    Chain {
+        first: first_or(begun.first, e.length),
+        steps: begun.steps - e.length,
+        budget: begun.budget - e.weight,
         low: w.low,
         high: w.high,
     }
 }
 
 // The rotations of a chain that is whole.
-fn emit(work: &[u64], paths: &mut [u64], at: usize, node: Event) -> usize
-    requires { ⌜ Small (now work) × ((1 ≤ bitsAt (now work)) × ((wordOf node < 2 ^ bitsAt (now work)) × (at ≤ pathRoom (length (now paths)) + 1))) ⌝ }
-    ensures { λ r. ⌜ (now (paths .exit), r) ≡ puts (turns (bitsAt (now (work .entry))) (node .state) (wordOf node)) (now (paths .entry), at) ⌝ }
+fn emit(work: &[u64], paths: &mut [u64], at: usize, whole: Chain) -> usize
+    requires { ⌜ ToEmit (now work) (now paths) at whole ⌝ }
+    ensures { λ r. ⌜ (now (paths .exit), r) ≡ puts (turns (bitsAt (now (work .entry))) (whole .first) (inputsOf whole)) (now (paths .entry), at) ⌝ }
 {
-    let bits = work[2048];
-    push_turns(paths, at, bits, node.state, make(node.low, node.high))
+    let bits = work[BITS_AT];
+    push_turns(paths, at, bits, whole.first, make(whole.low, whole.high))
 }
 
-// A chain that is not begun.
-fn whole(work: &[u64], w: u64) -> Event
+// A chain that is not begun: all its steps are left.
+fn unbegun(work: &[u64], w: u64) -> Chain
     requires { ⌜ Small (now work) ⌝ }
-    ensures { λ r. ⌜ r ≡ wholeNode (bitsAt (now (work .entry))) w ⌝ }
+    ensures { λ r. ⌜ r ≡ unbegun (bitsAt (now (work .entry))) w ⌝ }
 {
-    Event {
-        state: 0,
-        length: work[2048],
-        weight: w,
+    Chain {
+        first: 0,
+        steps: work[BITS_AT],
+        budget: w,
         low: 0,
         high: 0,
     }
@@ -84,7 +82,7 @@ fn end_of(work: &[u64]) -> usize
     requires { ⌜ Small (now work) ⌝ }
     ensures { λ r. ⌜ r ≡ endAt (now (work .entry)) ⌝ }
 {
-    work[2049] as usize
+    work[END_AT] as usize
 }
 
 // ---- the recursion: the steps left fall
@@ -95,36 +93,36 @@ fn join(
     work: &[u64],
     paths: &mut [u64],
     at: usize,
-    node: Event,
+    begun: Chain,
     e: Event,
 ) -> usize
-    requires { ⌜ Joins (now events) (now work) × (Node (bitsAt (now work)) node × (Joinable (bitsAt (now work)) e × (at ≤ pathRoom (length (now paths)) + 1))) ⌝ }
-    ensures { λ r. ⌜ (now (paths .exit), r) ≡ puts (foundBy (now (events .entry)) (now (work .entry)) node e) (now (paths .entry), at) ⌝ }
+    requires { ⌜ ToJoin (now events) (now work) (now paths) at begun e ⌝ }
+    ensures { λ r. ⌜ (now (paths .exit), r) ≡ puts (foundBy (now (events .entry)) (now (work .entry)) begun e) (now (paths .entry), at) ⌝ }
 {
-    let what = decide(work, node, e);
-    if what == 0 {
+    let what = decide(work, begun, e);
+    if what == SKIPPED {
         return at;
     }
-    let longer = extend(work, node, e);
-    if what == 1 {
+    let longer = extend(work, begun, e);
+    if what == COMPLETE {
         return emit(work, paths, at, longer);
     }
     chain(events, work, paths, at, longer)
 }
 
 // The words of all chains that begin so are appended at `at`; the position after them.
-fn chain(events: &[Event], work: &[u64], paths: &mut [u64], at: usize, node: Event) -> usize
-    requires { ⌜ Joins (now events) (now work) × (Node (bitsAt (now work)) node × (at ≤ pathRoom (length (now paths)) + 1)) ⌝ }
-    ensures { λ r. ⌜ (now (paths .exit), r) ≡ puts (found (now (events .entry)) (now (work .entry)) node) (now (paths .entry), at) ⌝ }
+fn chain(events: &[Event], work: &[u64], paths: &mut [u64], at: usize, begun: Chain) -> usize
+    requires { ⌜ ToChain (now events) (now work) (now paths) at begun ⌝ }
+    ensures { λ r. ⌜ (now (paths .exit), r) ≡ puts (found (now (events .entry)) (now (work .entry)) begun) (now (paths .entry), at) ⌝ }
 {
     let room = paths.len() / 2;
     let end = end_of(work);
     let mut next = at;
-    let mut k = begin(work, at, room, node);
+    let mut k = begin(work, at, room, begun);
     while k < end {
         let e = event_at(events, k);
-        next = join(events, work, paths, next, node, e);
-        let after = follow(work, next, room, node, e.length, k);
+        next = join(events, work, paths, next, begun, e);
+        let after = follow(work, next, room, begun, e.length, k);
         k = after;
     }
     next
@@ -134,7 +132,7 @@ fn chain(events: &[Event], work: &[u64], paths: &mut [u64], at: usize, node: Eve
 
 // The events from place `from` to before place `to` are noted in the tables.
 pub fn survey(events: &[Event], work: &mut [u64], from: usize, to: usize)
-    requires { ⌜ (8192 ≤ length (now work)) × Noted (now events) from to ⌝ }
+    requires { ⌜ (areaSize ≤ length (now work)) × Noted (now events) from to ⌝ }
     ensures { λ _. ⌜ now (work .exit) ≡ surveyed (now (events .entry)) (to - from) from (now (work .entry)) ⌝ }
 {
     let mut k = from;
@@ -154,7 +152,7 @@ fn list_state(
     i: usize,
     w: u64,
 ) -> usize
-    requires { ⌜ Indexed (now events) (now work) × ((i < 256) × ((w < 64) × (at ≤ pathRoom (length (now paths)) + 1))) ⌝ }
+    requires { ⌜ ToListState (now events) (now work) (now paths) at i w ⌝ }
     ensures { λ r. ⌜ (now (work .exit), (now (paths .exit), r)) ≡ stateListed (now (events .entry)) w i (now (work .entry)) (now (paths .entry), at) ⌝ }
 {
     let from = first_of(work, i);
@@ -162,8 +160,8 @@ fn list_state(
     open_state(work, to);
     survey(events, work, from, to);
     close_state(work, from);
-    let node = whole(work, w);
-    chain(events, work, paths, at, node)
+    let begun = unbegun(work, w);
+    chain(events, work, paths, at, begun)
 }
 
 // The words of weight w are appended at `at`, state by state; the position after them.
@@ -175,7 +173,7 @@ pub fn list_weight(
     states: usize,
     w: u64,
 ) -> usize
-    requires { ⌜ Indexed (now events) (now work) × ((states ≤ 256) × ((w < 64) × (at ≤ pathRoom (length (now paths)) + 1))) ⌝ }
+    requires { ⌜ ToListWeight (now events) (now work) (now paths) at states w ⌝ }
     ensures { λ r. ⌜ (now (work .exit), (now (paths .exit), r)) ≡ weightListed (now (events .entry)) w states (now (work .entry)) (now (paths .entry), at) ⌝ }
 {
     let mut next = at;

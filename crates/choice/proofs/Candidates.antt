@@ -12,11 +12,10 @@ use Rattle.lists.specs.Lists.{upFrom}
 use Rattle.lists.proofs.Member.{upFrom-bounds, in-upFrom}
 use Rattle.lists.proofs.Lengths.{length-map-upFrom}
 use Rattle.lists.proofs.Sorted.{Sorted, upFrom-sorted, map-sorted}
+use Rattle.parity.specs.Model.Parity.{Divisor}
 use Rattle.choice.specs.Choice.{candidates}
-
--- degree m and constant term 1
-abbrev pub IsCandidate : ℕ → ℕ → Type 0
-IsCandidate m p = (p / 2 ^ m ≡ 1) × (p % 2 ≡ 1)
+use Rattle.choice.specs.Best.{IsCandidate}
+use Rattle.choice.specs.Model.Steps.{CheckDegree}
 
 pub power-small : (m : ℕ) → m ≤ 12 → 2 ^ m ≤ 4096
 power-small m h = pow-le-pow-right (omega arith) h
@@ -31,13 +30,18 @@ twice-half-power (suc n) h = pow-succ' 2 n ∙ ap (λ k. 2 * 2 ^ k) less
     less : n ≡ suc n - 1
     less = omega arith
 
--- candidate k, by its number
-pub candidate-number : (m p : ℕ) → List·Memᴰ p (candidates m) → (k : ℕ) × (k < 2 ^ (m - 1)) × (2 ^ m + 2 * k + 1 ≡ p)
+-- p is candidate k
+pub record CandidateNumber (m p : ℕ) : Type 0 where
+  pub k : ℕ
+  pub below : k < 2 ^ (m - 1)
+  pub named : 2 ^ m + 2 * k + 1 ≡ p
+
+pub candidate-number : (m p : ℕ) → List·Memᴰ p (candidates m) → CandidateNumber m p
 unfolding candidates
 candidate-number m p member =
     let h = Memᴰ·of-map (λ k. 2 ^ m + 2 * k + 1) (upFrom 0 (2 ^ (m - 1))) member in
     let b = upFrom-bounds 0 (2 ^ (m - 1)) (h .1) in
-    (h .0, omega arith, h .2)
+    record { k = h .0; below = omega arith; named = h .2 }
 
 pub candidate-member : (m k : ℕ) → k < 2 ^ (m - 1) → List·Memᴰ (2 ^ m + 2 * k + 1) (candidates m)
 unfolding candidates
@@ -49,24 +53,31 @@ module _ (m : ℕ) (positive : 1 ≤ m) where
       let twice = twice-half-power m positive in
       (div-eq-of-lt-le (2 ^ m) (omega arith) (omega arith), omega arith)
 
-  pub degree-of : (p k n : ℕ) → n ≡ 2 ^ (m - 1) → k < n → p ≡ 2 ^ m + 2 * k + 1 → p / 2 ^ m ≡ 1
+  degree-of : (p k n : ℕ) → n ≡ 2 ^ (m - 1) → k < n → p ≡ 2 ^ m + 2 * k + 1 → p / 2 ^ m ≡ 1
   degree-of p k n all h e = ap (λ x. x / 2 ^ m) e ∙ numbered k (omega arith) .0
 
-  numberOf : (p : ℕ) → IsCandidate m p → (k : ℕ) × (k < 2 ^ (m - 1)) × (2 ^ m + 2 * k + 1 ≡ p)
+  numberOf : (p : ℕ) → IsCandidate m p → CandidateNumber m p
   numberOf p c =
       let twice = twice-half-power m positive in
       let whole : 1 * 2 ^ m + p % 2 ^ m ≡ p = rw (c .0) at (div-add-mod' p (2 ^ m)) in
       let rest : p % 2 ^ m < 2 ^ m = mod-lt p (one-le-pow m 2 (omega arith)) in
-      ((p - 2 ^ m) / 2, omega arith, omega arith)
+      record { k = (p - 2 ^ m) / 2; below = omega arith; named = omega arith }
 
   pub of-candidates : (p : ℕ) → List·Memᴰ p (candidates m) → IsCandidate m p
-  of-candidates p member = let h = candidate-number m p member in subst (IsCandidate m) (h .2) (numbered (h .0) (h .1))
+  of-candidates p member = let h = candidate-number m p member in subst (IsCandidate m) (h .named) (numbered (h .k) (h .below))
 
   pub in-candidates : (p : ℕ) → IsCandidate m p → List·Memᴰ p (candidates m)
-  in-candidates p c = let h = numberOf p c in Memᴰ·cast (sym (h .2)) (candidate-member m (h .0) (h .1))
+  in-candidates p c = let h = numberOf p c in Memᴰ·cast (sym (h .named)) (candidate-member m (h .k) (h .below))
 
   pub mem-candidates : (p : ℕ) → List·Memᴰ p (candidates m) ↔ IsCandidate m p
   mem-candidates p = (of-candidates p, in-candidates p)
+
+-- what is asked of a polynomial holds of every candidate
+pub candidate-divisor : {m n k p : ℕ} → CheckDegree m → n ≡ 2 ^ (m - 1) → k < n → p ≡ 2 ^ m + 2 * k + 1 → Divisor m p
+candidate-divisor {m} {n} {k} {p} degree all h named = record {
+  some-degree = degree .some-degree;
+  modulus = record { at-most-12 = degree .at-most-12; degree = degree-of m (degree .some-degree) p k n all h named };
+}
 
 pub candidates-sorted : (m : ℕ) → Sorted _<_ (candidates m)
 unfolding candidates

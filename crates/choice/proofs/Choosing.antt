@@ -8,9 +8,9 @@ use mathlib.Core.List.{List, [], _∷_, map, List·Memᴰ, List·Memᴰ·head, L
 use lib.ListN.{length, getD, take, length-map}
 use Rattle.lists.specs.Lists.{upFrom}
 use Rattle.lists.proofs.Member.{upFrom-bounds, of-filter}
-use Rattle.undetected.specs.Steps.{dividedCounts, countedFrom}
+use Rattle.undetected.specs.Model.Steps.{dividedCounts, countedFrom}
 use Rattle.undetected.proofs.Counts.{length-dividedCounts}
-use Rattle.choice.specs.Steps.{firstOf, leftOver, flagsLeft, aliveBelow, laid}
+use Rattle.choice.specs.Model.Steps.{firstOf, leftOver, flagsLeft, aliveBelow, laid}
 use Rattle.choice.proofs.Remaining.{some-left, left-alive}
 use Rattle.choice.proofs.Weighed.{counted-laid, take-laid, laid-again}
 

@@ -5,35 +5,34 @@ use Prim.Native.Nat.{ℕ, suc, _≤_, _<_}
 use native.Mathlib.Decide.{ℕ-discrete}
 use native.Mathlib.Omega.{arith}
 use mathlib.Core.Path.{_≡_, refl, sym, _∙_, ap, subst}
-use mathlib.Core.Bool.{not}
 use mathlib.Core.Logic.{_↔_, _≢_, ⊎-elim}
 use mathlib.Core.List.{List, [], _∷_, List·Memᴰ, List·Memᴰ·head, List·Memᴰ·not-nil, List·Memᴰ·eq-of-singleton, Memᴰ·cast}
-use lib.Dec.{T, T-not}
+use lib.Dec.{T, T-not, not-T}
 use lib.ListN.{length}
 use Rattle.lists.proofs.Sorted.{sorted-unique}
 use Rattle.order.specs.Order.{Order}
 use Rattle.undetected.specs.Undetected.{undetectedCounts}
-use Rattle.choice.specs.Choice.{fewer, betters, best, one, tie, choiceOf, choice}
-use Rattle.choice.proofs.Fewer.{LowestLess, lowest-of-fewer, fewer-of-lowest}
-use Rattle.choice.proofs.Candidates.{IsCandidate, of-candidates, in-candidates}
-use Rattle.choice.proofs.Best.{length-undetectedCounts, of-best, best-sorted, best-nonempty, every-other-worse, best-share, best-of-same}
+use Rattle.choice.specs.Choice.{candidates, betters, best, one, tie, choiceOf, choice}
+use Rattle.choice.specs.Best.{IsCandidate, LowestLess, LowestFewer, OnlyBest, SharedBest}
+use Rattle.choice.proofs.Fewer.{lowest-of-fewer, fewer-of-lowest, fewer-irreflexive, fewer-asymmetric}
+use Rattle.choice.proofs.Candidates.{of-candidates, in-candidates}
+use Rattle.choice.proofs.Best.{length-undetectedCounts, of-best, in-best, best-sorted, best-nonempty, every-other-worse, best-share, best-of-same}
 
--- p has fewer undetected words than q at the lowest weight below d where the two differ
-abbrev pub LowestFewer : Order → ℕ → ℕ → Type 0
-LowestFewer o p q = LowestLess (o .d) (undetectedCounts o p) (undetectedCounts o q)
+some-member : (l : List ℕ) → 1 ≤ length l → (p : ℕ) × List·Memᴰ p l
+some-member [] h = absurd (omega arith)
+some-member (x ∷ l) h = (x, List·Memᴰ·head refl)
 
--- p alone is best, and these are its counts
-pub record OnlyBest (o : Order) (p : ℕ) (counts : List ℕ) : Type 0 where
-  pub candidate : IsCandidate (o .m) p
-  pub counted : counts ≡ undetectedCounts o p
-  pub others-worse : (q : ℕ) → IsCandidate (o .m) q → q ≢ p → LowestFewer o p q
+-- a member with these counts
+record WithCounts (o : Order) (l counts : List ℕ) : Type 0 where
+  polynomial : ℕ
+  member : List·Memᴰ polynomial l
+  counted : undetectedCounts o polynomial ≡ counts
 
--- so many are best, and these are their counts
-pub record SharedBest (o : Order) (left : ℕ) (counts : List ℕ) : Type 0 where
-  pub several : 2 ≤ left
-  pub all-left : left ≡ length (best o)
-  pub members : (q : ℕ) → List·Memᴰ q (best o) ↔ (IsCandidate (o .m) q × (undetectedCounts o q ≡ counts))
-  pub unbettered : (q : ℕ) → IsCandidate (o .m) q → T (not (fewer (undetectedCounts o q) counts))
+-- a tie that is told of the list of those left
+record Tied (o : Order) (l : List ℕ) (left : ℕ) (counts : List ℕ) : Type 0 where
+  several : 2 ≤ left
+  how-many : left ≡ length l
+  first : WithCounts o l counts
 
 module _ (o : Order) where
   betters⇔lowest : (p q : ℕ) → T (betters o p q) ↔ LowestFewer o p q
@@ -52,18 +51,14 @@ module _ (o : Order) where
   choiceOf-one (x ∷ []) p counts e = (cc, cc)
   choiceOf-one (x ∷ y ∷ l) p counts e = absurd (let z : _≡_ {A = ℕ} 0 1 = cc in omega arith)
 
-  -- a member with the counts that are told
-  abbrev WithCounts : List ℕ → List ℕ → Type 0
-  WithCounts l counts = (p : ℕ) × List·Memᴰ p l × (undetectedCounts o p ≡ counts)
-
   choiceOf-tie : (l : List ℕ) (left : ℕ) (counts : List ℕ) → (p : ℕ) × List·Memᴰ p l → choiceOf o l ≡ tie left counts
-      → (2 ≤ left) × (left ≡ length l) × WithCounts l counts
+      → Tied o l left counts
   unfolding choiceOf
   choiceOf-tie [] left counts some e = absurd (List·Memᴰ·not-nil (some .1))
   choiceOf-tie (x ∷ []) left counts some e = absurd (let z : _≡_ {A = ℕ} 0 1 = cc in omega arith)
   choiceOf-tie (x ∷ y ∷ l) left counts some e =
       let n : left ≡ suc (suc (length l)) = cc in
-      (omega arith, n, (x, List·Memᴰ·head refl, cc))
+      record { several = omega arith; how-many = n; first = record { polynomial = x; member = List·Memᴰ·head refl; counted = cc } }
 
   tie-of-several : (l : List ℕ) (counts : List ℕ) → 2 ≤ length l → ((p : ℕ) → List·Memᴰ p l → undetectedCounts o p ≡ counts)
       → choiceOf o l ≡ tie (length l) counts
@@ -120,33 +115,61 @@ module _ (o : Order) where
 
     -- ---- several
 
-    module _ (counts : List ℕ) (first : WithCounts (best o) counts) where
+    module _ (counts : List ℕ) (first : WithCounts o (best o) counts) where
       shared-members : (q : ℕ) → List·Memᴰ q (best o) ↔ (IsCandidate (o .m) q × (undetectedCounts o q ≡ counts))
       shared-members q = (to, from)
         where
           to : List·Memᴰ q (best o) → IsCandidate (o .m) q × (undetectedCounts o q ≡ counts)
-          to m = (of-candidates (o .m) positive q (of-best o q m .0), best-share o q (first .0) m (first .1) ∙ first .2)
+          to m =
+              (of-candidates (o .m) positive q (of-best o q m .0), best-share o q (first .polynomial) m (first .member) ∙ first .counted)
 
           from : IsCandidate (o .m) q × (undetectedCounts o q ≡ counts) → List·Memᴰ q (best o)
-          from c = best-of-same o (first .0) q (first .1) (in-candidates (o .m) positive q (c .0)) (first .2 ∙ sym (c .1))
+          from c =
+              best-of-same o (first .polynomial) q (first .member) (in-candidates (o .m) positive q (c .0)) (first .counted ∙ sym (c .1))
 
-      shared-unbettered : (q : ℕ) → IsCandidate (o .m) q → T (not (fewer (undetectedCounts o q) counts))
-      unfolding betters
-      shared-unbettered q c =
-          let unbeaten = of-best o (first .0) (first .1) .1 q (in-candidates (o .m) positive q c) in
-          subst (λ x. T (not (fewer (undetectedCounts o q) x))) (first .2) unbeaten
+      shared-others : (q : ℕ) → IsCandidate (o .m) q → undetectedCounts o q ≢ counts → LowestLess (o .d) counts (undetectedCounts o q)
+      shared-others q c differs =
+          ⊎-elim (λ same. absurd (differs (sym same ∙ first .counted)))
+          (λ t. rw (first .counted) at (betters⇔lowest (first .polynomial) q .0 t))
+          (every-other-worse o (first .polynomial) q (first .member) (in-candidates (o .m) positive q c))
 
     pub choice-tie : (left : ℕ) (counts : List ℕ) → choice o ≡ tie left counts → SharedBest o left counts
     unfolding choice
     choice-tie left counts e =
         let h = choiceOf-tie (best o) left counts (best-nonempty o) e in
-        record { several = h .0; all-left = h .1; members = shared-members counts (h .2); unbettered = shared-unbettered counts (h .2) }
+        record {
+          several = h .several;
+          sharing = best o;
+          each-once = best-sorted o;
+          how-many = sym (h .how-many);
+          members = shared-members counts (h .first);
+          others-worse = shared-others counts (h .first);
+        }
 
-    pub tie-of-shared-best : (left : ℕ) (counts : List ℕ) → SharedBest o left counts → choice o ≡ tie left counts
-    unfolding choice
-    tie-of-shared-best left counts h =
-        tie-of-several (best o) counts (subst (λ n. 2 ≤ n) (h .all-left) (h .several)) (λ p m. h .members p .0 m .1)
-        ∙ ap (λ n. tie n counts) (sym (h .all-left))
+    -- those that share the best counts are those left
+    module _ (left : ℕ) (counts : List ℕ) (h : SharedBest o left counts) where
+      unbettered : (q r : ℕ) → undetectedCounts o q ≡ counts → List·Memᴰ r (candidates (o .m)) → T (betters o r q) → ⊥
+      unfolding betters
+      unbettered q r same m t =
+          let differs : undetectedCounts o r ≢ counts = λ e. fewer-irreflexive counts (rw (e, same) at t) in
+          let less : LowestFewer o q r = rw same (h .others-worse r (of-candidates (o .m) positive r m) differs) in
+          fewer-asymmetric (undetectedCounts o q) (undetectedCounts o r) (betters⇔lowest q r .1 less) t
+
+      is-left : (q : ℕ) → List·Memᴰ q (h .sharing) → List·Memᴰ q (best o)
+      is-left q m =
+          let c = h .members q .0 m in
+          in-best o q (in-candidates (o .m) positive q (c .0)) (λ r n. not-T (betters o r q) (unbettered q r (c .1) n))
+
+      shares : (q : ℕ) → List·Memᴰ q (best o) → List·Memᴰ q (h .sharing)
+      shares q m =
+          let some = some-member (h .sharing) (rw (h .how-many) (omega (arith, h .several))) in
+          h .members q .1 (of-candidates (o .m) positive q (of-best o q m .0), best-share o q (some .0) m (is-left (some .0) (some .1)) ∙ h .members (some .0) .0 (some .1) .1)
+
+      pub tie-of-shared-best : choice o ≡ tie left counts
+      unfolding choice
+      tie-of-shared-best =
+          let same : best o ≡ h .sharing = sorted-unique _<_ (λ x y a b. omega arith) (best o) (h .sharing) (best-sorted o) (h .each-once) shares is-left in
+          ap (choiceOf o) same ∙ tie-of-several (h .sharing) counts (rw (h .how-many) (h .several)) (λ p m. h .members p .0 m .1) ∙ ap (λ n. tie n counts) (h .how-many)
 
     pub choice-tie⇔shared-best : (left : ℕ) (counts : List ℕ) → (choice o ≡ tie left counts) ↔ SharedBest o left counts
     choice-tie⇔shared-best left counts = (choice-tie left counts, tie-of-shared-best left counts)

@@ -8,10 +8,10 @@ use mathlib.Core.Bool.{Bool, true, false}
 use mathlib.Core.List.{List}
 use lib.Dec.{T}
 use lib.ListN.{length, getD, take, set, replicate}
-use Rattle.undetected.specs.Steps.{dividedCounts, countedFrom}
+use Rattle.undetected.specs.Model.Steps.{dividedCounts, countedFrom}
 use Rattle.undetected.proofs.Counts.{length-dividedCounts}
 use Rattle.choice.specs.Choice.{fewer}
-use Rattle.choice.specs.Steps.{laid, dropped, leftOver, LeftAlive}
+use Rattle.choice.specs.Model.Steps.{laid, dropped, leftOver, LeftAlive, ToCompare}
 use Rattle.choice.proofs.Candidates.{few-candidates}
 use Rattle.choice.proofs.Leader.{leader, leader-first, leader-worse, leader-better, leader-level, leader-length}
 use Rattle.choice.proofs.Leader.{Alive, alive-begin, alive-worse, alive-better, alive-level}
@@ -30,11 +30,12 @@ pub record Met (m d n : ℕ) (table plain before after : List ℕ) (alive : List
   pub flags : Alive (countsOf m (dividedCounts m table plain d)) k alive
 
 -- of values that are the same
-pub met-same : (m d n : ℕ) (table plain before after after′ : List ℕ) (alive alive′ : List Bool) (k k′ : ℕ) → after′ ≡ after → alive′ ≡ alive → k′ ≡ k
+pub met-same : {m d n : ℕ} {table plain before after after′ : List ℕ} {alive alive′ : List Bool} {k k′ : ℕ}
+    → after′ ≡ after → alive′ ≡ alive → k′ ≡ k
     → Met m d n table plain before after alive k → Met m d n table plain before after′ alive′ k′
-met-same m d n table plain before after after′ alive alive′ k k′ ea ef ek met = rw (ea, ef, ek) met
+met-same ea ef ek met = rw (ea, ef, ek) met
 
-module _ (m d : ℕ) (table plain : List ℕ) where
+module _ {bits d m n : ℕ} {table plain before : List ℕ} (asked : ToCompare bits d m n table plain before) where
   -- the counts of p, those of candidate k, and the best of the first k
   abbrev counts : ℕ → List ℕ
   counts p = dividedCounts m table plain d p
@@ -45,6 +46,12 @@ module _ (m d : ℕ) (table plain : List ℕ) where
   abbrev best : ℕ → List ℕ
   best k = bestOf m table plain d k
 
+  abbrev small : m ≤ 12
+  small = asked .choose .degree .at-most-12
+
+  abbrev room : d ≤ length before
+  room = asked .choose .counts
+
   counts-length : (p : ℕ) → length (counts p) ≡ d
   counts-length p = length-dividedCounts m p table plain d
 
@@ -54,75 +61,75 @@ module _ (m d : ℕ) (table plain : List ℕ) where
   pub best-length : (k : ℕ) → length (best k) ≡ d
   best-length k = leader-length mine d sized k
 
-  module _ (n : ℕ) (before : List ℕ) (small : m ≤ 12) (all : n ≡ 2 ^ (m - 1)) (room : d ≤ length before) where
-    -- what holds after the first k
-    abbrev After : List ℕ → List Bool → ℕ → Type 0
-    After after alive k = Met m d n table plain before after alive k
+  -- what holds after the first k
+  abbrev After : List ℕ → List Bool → ℕ → Type 0
+  After after alive k = Met m d n table plain before after alive k
 
-    -- the best counts are read from the undetected list
-    pub met-limit : (k : ℕ) (after : List ℕ) (alive : List Bool) → After after alive k → (w : ℕ) → w < d → getD after w 0 ≡ getD (best k) w 0
-    met-limit k after alive met w h = ap (λ (l : List ℕ). getD l w 0) (met .listed) ∙ laid-at d (best k) before (best-length k) room w h
+  -- the best counts are read from the undetected list
+  pub met-limit : {k : ℕ} {after : List ℕ} {alive : List Bool} → After after alive k → (w : ℕ) → w < d → getD after w 0 ≡ getD (best k) w 0
+  met-limit {k} met w h = ap (λ (l : List ℕ). getD l w 0) (met .listed) ∙ laid-at d (best k) before (best-length k) room w h
 
-    pub met-length : (k : ℕ) (after : List ℕ) (alive : List Bool) → After after alive k → length after ≡ length before
-    met-length k after alive met = ap length (met .listed) ∙ length-laid d (best k) before (best-length k) room
+  pub met-length : {k : ℕ} {after : List ℕ} {alive : List Bool} → After after alive k → length after ≡ length before
+  met-length {k} met = ap length (met .listed) ∙ length-laid d (best k) before (best-length k) room
 
-    pub met-begin : take d before ≡ counts (2 ^ m + 1) → After before (replicate 2048 true) 1
-    met-begin e =
-        let zero : 2 ^ m + 1 ≡ 2 ^ m + 2 * 0 + 1 = omega arith in
-        let first : take d before ≡ best 1 = e ∙ ap counts zero ∙ sym (leader-first mine d sized) in
+  pub met-begin : After before (replicate 2048 true) 1
+  met-begin =
+      let zero : 2 ^ m + 1 ≡ 2 ^ m + 2 * 0 + 1 = omega arith in
+      let first : take d before ≡ best 1 = asked .first-counted ∙ ap counts zero ∙ sym (leader-first mine d sized) in
+      record {
+        begun = omega arith;
+        within = omega (arith, asked .all, one-le-pow (m - 1) 2 (omega arith));
+        listed = laid-itself d (best 1) before (best-length 1) first;
+        flags = alive-begin mine d sized;
+      }
+
+  -- candidate k is met
+  module _ {k p : ℕ} {after : List ℕ} {alive : List Bool} (more : k < n) (named : p ≡ 2 ^ m + 2 * k + 1) (met : After after alive k) where
+    inside : k < 2048
+    inside = omega (arith, asked .all, few-candidates m small)
+
+    same : counts p ≡ mine k
+    same = ap counts named
+
+    pub met-worse : T (fewer (best k) (counts p)) → After after (set alive k false) (k + 1)
+    met-worse t =
+        let u = subst (λ (a : List ℕ). T (fewer (best k) a)) same t in
         record {
           begun = omega arith;
-          within = omega (arith, one-le-pow (m - 1) 2 (omega arith));
-          listed = laid-itself d (best 1) before (best-length 1) first;
-          flags = alive-begin mine d sized;
+          within = omega arith;
+          listed = met .listed ∙ ap (λ (a : List ℕ). laid a before) (sym (leader-worse mine d sized k u));
+          flags = alive-worse mine d sized k alive inside (met .flags) u;
         }
 
-    -- candidate k is met
-    module _ (k p : ℕ) (after : List ℕ) (alive : List Bool) (more : k < n) (named : p ≡ 2 ^ m + 2 * k + 1) (met : After after alive k) where
-      inside : k < 2048
-      inside = omega (arith, few-candidates m small)
+    pub met-better : T (fewer (counts p) (best k)) → (w : ℕ) → w ≤ d → Agree w (counts p) (best k)
+        → {alive′ : List Bool} → alive′ ≡ dropped k alive → {after′ : List ℕ} → after′ ≡ countedFrom m p table plain w d after
+        → After after′ alive′ (k + 1)
+    met-better t w h agree ea el =
+        let u = subst (λ (a : List ℕ). T (fewer a (best k))) same t in
+        record {
+          begun = omega arith;
+          within = omega arith;
+          listed =
+              el ∙ ap (countedFrom m p table plain w d) (met .listed)
+              ∙ laid-recounted d (best k) before (best-length k) room m p table plain w h agree
+              ∙ ap (λ (a : List ℕ). laid a before) (same ∙ sym (leader-better mine d sized k u));
+          flags = subst (Alive mine (k + 1)) (sym ea) (alive-better mine d sized k alive inside (met .flags) u);
+        }
 
-      same : counts p ≡ mine k
-      same = ap counts named
+    pub met-level : Agree d (counts p) (best k) → After after alive (k + 1)
+    met-level agree =
+        let e : mine k ≡ best k = sym same ∙ agree-all d (counts p) (best k) (counts-length p) (best-length k) agree in
+        record {
+          begun = omega arith;
+          within = omega arith;
+          listed = met .listed ∙ ap (λ (a : List ℕ). laid a before) (sym (leader-level mine d sized k e));
+          flags = alive-level mine d sized k alive inside (met .flags) e;
+        }
 
-      pub met-worse : T (fewer (best k) (counts p)) → After after (set alive k false) (k + 1)
-      met-worse t =
-          let u = subst (λ (a : List ℕ). T (fewer (best k) a)) same t in
-          record {
-            begun = omega arith;
-            within = omega arith;
-            listed = met .listed ∙ ap (λ (a : List ℕ). laid a before) (sym (leader-worse mine d sized k u));
-            flags = alive-worse mine d sized k alive inside (met .flags) u;
-          }
-
-      pub met-better : T (fewer (counts p) (best k)) → (w : ℕ) → w ≤ d → Agree w (counts p) (best k)
-          → (alive′ : List Bool) → alive′ ≡ dropped k alive → (after′ : List ℕ) → after′ ≡ countedFrom m p table plain w d after
-          → After after′ alive′ (k + 1)
-      met-better t w h agree alive′ ea after′ el =
-          let u = subst (λ (a : List ℕ). T (fewer a (best k))) same t in
-          record {
-            begun = omega arith;
-            within = omega arith;
-            listed =
-                el ∙ ap (countedFrom m p table plain w d) (met .listed) ∙ laid-recounted d (best k) before (best-length k) room m p table plain w h agree
-                ∙ ap (λ (a : List ℕ). laid a before) (same ∙ sym (leader-better mine d sized k u));
-            flags = subst (Alive mine (k + 1)) (sym ea) (alive-better mine d sized k alive inside (met .flags) u);
-          }
-
-      pub met-level : Agree d (counts p) (best k) → After after alive (k + 1)
-      met-level agree =
-          let e : mine k ≡ best k = sym same ∙ agree-all d (counts p) (best k) (counts-length p) (best-length k) agree in
-          record {
-            begun = omega arith;
-            within = omega arith;
-            listed = met .listed ∙ ap (λ (a : List ℕ). laid a before) (sym (leader-level mine d sized k e));
-            flags = alive-level mine d sized k alive inside (met .flags) e;
-          }
-
-    pub met-end : (k : ℕ) (after : List ℕ) (alive : List Bool) → n ≤ k → After after alive k → LeftAlive m d table plain before after alive
-    unfolding leftOver
-    met-end k after alive h met =
-        let e : k ≡ 2 ^ (m - 1) = omega arith in (
-          alive-end m counts d counts-length small alive (subst (λ (i : ℕ). Alive mine i alive) e (met .flags)),
-          met .listed ∙ ap (λ (a : List ℕ). laid a before) (ap (leader mine) e ∙ sym (best-counts m counts d counts-length)),
-        )
+  pub met-end : {k : ℕ} {after : List ℕ} {alive : List Bool} → n ≤ k → After after alive k → LeftAlive m d table plain before after alive
+  unfolding leftOver
+  met-end {k} {after} {alive} h met =
+      let e : k ≡ 2 ^ (m - 1) = omega (arith, asked .all) in (
+        alive-end m counts d counts-length small alive (subst (λ (i : ℕ). Alive mine i alive) e (met .flags)),
+        met .listed ∙ ap (λ (a : List ℕ). laid a before) (ap (leader mine) e ∙ sym (best-counts m counts d counts-length)),
+      )

@@ -13,10 +13,7 @@ use lib.Dec.{T, ltb, eqb, ltb→lt, lt→ltb, eqb→eq, eqb-refl}
 use lib.ListN.{length, getD}
 use Rattle.lists.proofs.Tests.{T-and, T-or}
 use Rattle.choice.specs.Choice.{fewer}
-
--- the lists agree below some weight w < d, and at w the first has fewer
-abbrev pub LowestLess : ℕ → List ℕ → List ℕ → Type 0
-LowestLess d a b = (w : ℕ) × (w < d) × ((k : ℕ) → k < w → getD a k 0 ≡ getD b k 0) × (getD a w 0 < getD b w 0)
+use Rattle.choice.specs.Best.{LowestLess}
 
 agree-cons : (x y w : ℕ) (s t : List ℕ) → x ≡ y → ((k : ℕ) → k < w → getD s k 0 ≡ getD t k 0)
     → (k : ℕ) → k < suc w → getD (x ∷ s) k 0 ≡ getD (y ∷ t) k 0

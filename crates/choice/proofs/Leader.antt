@@ -16,7 +16,7 @@ use lib.Seq.{getD-set-same, getD-set-other}
 use Rattle.lists.proofs.Tests.{passes-or-fails, true-of-T}
 use Rattle.lists.proofs.Choices.{cond-true, cond-false}
 use Rattle.choice.specs.Choice.{fewer}
-use Rattle.choice.specs.Steps.{dropped}
+use Rattle.choice.specs.Model.Steps.{dropped}
 use Rattle.choice.proofs.Fewer.{fewer-irreflexive, fewer-transitive, fewer-asymmetric, fewer-total}
 use Rattle.choice.proofs.Flags.{length-dropped, dropped-before, dropped-after}
 
@@ -30,6 +30,12 @@ pub record Alive (f : ℕ → List ℕ) (k : ℕ) (alive : List Bool) : Type 0 w
   pub size : length alive ≡ 2048
   pub before : (j : ℕ) → j < k → getD alive j false ≡ not (fewer (leader f k) (f j))
   pub after : (j : ℕ) → k ≤ j → j < 2048 → getD alive j false ≡ true
+
+-- one of the first k has the counts a
+pub record Among (f : ℕ → List ℕ) (k : ℕ) (a : List ℕ) : Type 0 where
+  pub place : ℕ
+  pub met : place < k
+  pub same : a ≡ f place
 
 -- what holds below k and at k
 below-suc : (P : ℕ → Type 0) (k : ℕ) → ((j : ℕ) → j < k → P j) → P k → (j : ℕ) → j < suc k → P j
@@ -65,14 +71,15 @@ module _ (f : ℕ → List ℕ) (d : ℕ) (sized : (j : ℕ) → length (f j) �
 
   -- ---- one of those met
 
-  leader-among : (k : ℕ) → (i : ℕ) × (i < suc k) × (leader f (suc k) ≡ f i)
-  leader-among zero = (0, omega arith, leader-first)
+  leader-among : (k : ℕ) → Among f (suc k) (leader f (suc k))
+  leader-among zero = record { place = 0; met = omega arith; same = leader-first }
   leader-among (suc k) =
       let r = leader-among k in
-      ⊎-elim (λ t. (suc k, omega arith, leader-new (suc k) t)) (λ n. (r .0, omega arith, leader-kept (suc k) n ∙ r .2))
+      ⊎-elim (λ t. record { place = suc k; met = omega arith; same = leader-new (suc k) t })
+      (λ n. record { place = r .place; met = omega arith; same = leader-kept (suc k) n ∙ r .same })
       (passes-or-fails (fewer (f (suc k)) (leader f (suc k))))
 
-  pub leader-member : (k : ℕ) → 1 ≤ k → (i : ℕ) × (i < k) × (leader f k ≡ f i)
+  pub leader-member : (k : ℕ) → 1 ≤ k → Among f k (leader f k)
   leader-member zero h = absurd (omega arith)
   leader-member (suc k) h = leader-among k
 

@@ -9,9 +9,9 @@ use mathlib.Core.List.{List, [], _∷_, List·Memᴰ, List·Memᴰ·not-nil}
 use lib.ListN.{length}
 use Rattle.order.specs.Order.{Order}
 use Rattle.undetected.specs.Undetected.{undetectedCounts}
-use Rattle.undetected.specs.Steps.{dividedCounts}
+use Rattle.undetected.specs.Model.Steps.{dividedCounts}
 use Rattle.choice.specs.Choice.{candidates, betters, best, one, tie, choiceOf, choice}
-use Rattle.choice.specs.Steps.{unbettered, bestBy, firstOf, leftOver, laid, Chose}
+use Rattle.choice.specs.Model.Steps.{unbettered, bestBy, firstOf, leftOver, laid, Chose}
 use Rattle.choice.specs.declared.Outcome.{Outcome}
 use Rattle.choice.proofs.Best.{best-nonempty}
 
@@ -40,27 +40,31 @@ module _ (o : Order) where
 
   -- ---- what `choose` leaves
 
-  module _ (m d : ℕ) (table plain : List ℕ) (degree : o .m ≡ m) (counted : (p : ℕ) → dividedCounts m table plain d p ≡ undetectedCounts o p) where
-    pub left-is-best : leftOver m table plain d ≡ best o
-    unfolding leftOver bestBy unbettered best betters
-    left-is-best = ap₂ (λ (counts : ℕ → List ℕ) (i : ℕ). bestBy counts (candidates i)) (fun-ext counted) (sym degree)
+  -- the counts over the table are the undetected counts
+  abbrev Counted : List ℕ → List ℕ → Type 0
+  Counted table plain = (p : ℕ) → dividedCounts (o .m) table plain (o .d) p ≡ undetectedCounts o p
 
-    module _ (before after : List ℕ) (r : Outcome) (chose : Chose m d table plain before after r) where
-      left-best : r .left ≡ length (best o)
-      left-best = chose .0 ∙ ap length left-is-best
+  pub left-is-best : (table plain : List ℕ) → Counted table plain → leftOver (o .m) table plain (o .d) ≡ best o
+  unfolding leftOver bestBy unbettered best betters
+  left-is-best table plain counted = ap (λ (counts : ℕ → List ℕ). bestBy counts (candidates (o .m))) (fun-ext counted)
 
-      polynomial-best : r .polynomial ≡ firstOf (best o)
-      polynomial-best = chose .1 ∙ ap firstOf left-is-best
+  module _ {table plain before after : List ℕ} {r : Outcome} (counted : Counted table plain)
+      (chose : Chose (o .m) (o .d) table plain before after r) where
+    left-best : r .left ≡ length (best o)
+    left-best = chose .how-many ∙ ap length (left-is-best table plain counted)
 
-      -- the undetected list
-      pub chosen-counts : after ≡ laid (undetectedCounts o (r .polynomial)) before
-      chosen-counts =
-          let same = counted (firstOf (leftOver m table plain d)) ∙ ap (undetectedCounts o) (sym (chose .1)) in
-          chose .2 ∙ ap (λ (counts : List ℕ). laid counts before) same
+    polynomial-best : r .polynomial ≡ firstOf (best o)
+    polynomial-best = chose .first ∙ ap firstOf (left-is-best table plain counted)
 
-      pub chosen-one : r .left ≡ 1 → choice o ≡ one (r .polynomial) (undetectedCounts o (r .polynomial))
-      chosen-one h = choice-of-one (sym left-best ∙ h) ∙ ap (λ (p : ℕ). one p (undetectedCounts o p)) (sym polynomial-best)
+    -- the undetected list
+    pub chosen-counts : after ≡ laid (undetectedCounts o (r .polynomial)) before
+    chosen-counts =
+        let same = counted (firstOf (leftOver (o .m) table plain (o .d))) ∙ ap (undetectedCounts o) (sym (chose .first)) in
+        chose .listed ∙ ap (λ (counts : List ℕ). laid counts before) same
 
-      pub chosen-tie : r .left ≢ 1 → choice o ≡ tie (r .left) (undetectedCounts o (r .polynomial))
-      chosen-tie h =
-          choice-of-several (λ e. h (left-best ∙ e)) ∙ ap₂ (λ (n p : ℕ). tie n (undetectedCounts o p)) (sym left-best) (sym polynomial-best)
+    pub chosen-one : r .left ≡ 1 → choice o ≡ one (r .polynomial) (undetectedCounts o (r .polynomial))
+    chosen-one h = choice-of-one (sym left-best ∙ h) ∙ ap (λ (p : ℕ). one p (undetectedCounts o p)) (sym polynomial-best)
+
+    pub chosen-tie : r .left ≢ 1 → choice o ≡ tie (r .left) (undetectedCounts o (r .polynomial))
+    chosen-tie h =
+        choice-of-several (λ e. h (left-best ∙ e)) ∙ ap₂ (λ (n p : ℕ). tie n (undetectedCounts o p)) (sym left-best) (sym polynomial-best)

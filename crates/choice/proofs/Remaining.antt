@@ -16,10 +16,10 @@ use Rattle.lists.proofs.Tests.{true-of-T, false-of-T-not}
 use Rattle.lists.proofs.Member.{upFrom-bounds, of-filter, in-filter, mem-not-any}
 use Rattle.lists.proofs.Lengths.{getD-map-upFrom, length-padded, getD-padded-inside, getD-padded-after}
 use Rattle.choice.specs.Choice.{candidates, fewer}
-use Rattle.choice.specs.Steps.{unbettered, bestBy, firstOf, flagsLeft, aliveBelow}
+use Rattle.choice.specs.Model.Steps.{unbettered, bestBy, firstOf, flagsLeft, aliveBelow}
 use Rattle.choice.proofs.Candidates.{few-candidates, candidate-number, candidate-member, length-candidates}
 use Rattle.lists.proofs.Filters.{filter-cong-on, filter-map}
-use Rattle.choice.proofs.Leader.{leader, Alive, not-itself, leader-member, leader-least, level-or-worse}
+use Rattle.choice.proofs.Leader.{leader, Alive, Among, not-itself, leader-member, leader-least, level-or-worse}
 
 firstOf-member : {p : ℕ} (l : List ℕ) → List·Memᴰ p l → List·Memᴰ (firstOf l) l
 unfolding firstOf
@@ -49,7 +49,9 @@ module _ (m : ℕ) (counts : ℕ → List ℕ) where
   unfolding unbettered
   in-unbettered p none =
       mem-not-any (λ q. fewer (counts q) (counts p)) (candidates m) .1
-      (λ q member. let h = candidate-number m q member in subst (λ (x : ℕ). T (not (fewer (counts x) (counts p)))) (h .2) (none (h .0) (h .1)))
+      (λ q member.
+      let h = candidate-number m q member in
+      subst (λ (x : ℕ). T (not (fewer (counts x) (counts p)))) (h .named) (none (h .k) (h .below)))
 
   module _ (d : ℕ) (sized : (p : ℕ) → length (counts p) ≡ d) where
     -- the best of all candidates
@@ -63,7 +65,7 @@ module _ (m : ℕ) (counts : ℕ → List ℕ) where
     last-least = leader-least countsOf d sized-of (2 ^ (m - 1))
 
     -- one of them has it
-    last-member : (i : ℕ) × (i < 2 ^ (m - 1)) × (last ≡ countsOf i)
+    last-member : Among countsOf (2 ^ (m - 1)) last
     last-member = leader-member countsOf d sized-of (2 ^ (m - 1)) (one-le-pow (m - 1) 2 (omega arith))
 
     module _ (j : ℕ) (h : j < 2 ^ (m - 1)) where
@@ -74,8 +76,8 @@ module _ (m : ℕ) (counts : ℕ → List ℕ) where
       worse-bettered : T (fewer last (countsOf j)) → T (left (2 ^ m + 2 * j + 1)) → ⊥
       worse-bettered t u =
           let i = last-member in
-          T-not (fewer (countsOf (i .0)) (countsOf j)) (of-unbettered (2 ^ m + 2 * j + 1) u (i .0) (i .1))
-          (subst (λ (a : List ℕ). T (fewer a (countsOf j))) (i .2) t)
+          T-not (fewer (countsOf (i .place)) (countsOf j)) (of-unbettered (2 ^ m + 2 * j + 1) u (i .place) (i .met))
+          (subst (λ (a : List ℕ). T (fewer a (countsOf j))) (i .same) t)
 
       -- level with the best, or worse
       level-or-bettered : (last ≡ countsOf j) ⊎ T (fewer last (countsOf j))
@@ -98,7 +100,8 @@ module _ (m : ℕ) (counts : ℕ → List ℕ) where
     unfolding bestBy
     some-left =
         let i = last-member in
-        (2 ^ m + 2 * i .0 + 1, in-filter left (candidates m) (candidate-member m (i .0) (i .1)) (level-unbettered (i .0) (i .1) (i .2)))
+        let up = level-unbettered (i .place) (i .met) (i .same) in
+        (2 ^ m + 2 * i .place + 1, in-filter left (candidates m) (candidate-member m (i .place) (i .met)) up)
 
     pub best-counts : counts (firstOf (bestBy counts (candidates m))) ≡ last
     unfolding bestBy
@@ -106,8 +109,9 @@ module _ (m : ℕ) (counts : ℕ → List ℕ) where
         let ps : List ℕ = candidates m in
         let first = of-filter left ps (firstOf-member (filter left ps) (some-left .1)) in
         let j = candidate-number m (firstOf (filter left ps)) (first .0) in
-        let stands : T (left (2 ^ m + 2 * j .0 + 1)) = subst (λ (p : ℕ). T (left p)) (sym (j .2)) (first .1) in
-        ap counts (sym (j .2)) ∙ ⊎-elim sym (λ t. absurd (worse-bettered (j .0) (j .1) t stands)) (level-or-bettered (j .0) (j .1))
+        let stands : T (left (2 ^ m + 2 * j .k + 1)) = subst (λ (p : ℕ). T (left p)) (sym (j .named)) (first .1) in
+        ap counts (sym (j .named))
+        ∙ ⊎-elim sym (λ t. absurd (worse-bettered (j .k) (j .below) t stands)) (level-or-bettered (j .k) (j .below))
 
     -- ---- the flags in the end
 

@@ -16,14 +16,14 @@ use lib.ListN.{length, getD, take, drop, length-append, length-drop, take-append
 use lib.Seq.{ext-getD, take-append-le, take-at, drop-at, getD-take, length-take-le}
 use Rattle.lists.specs.Lists.{upFrom}
 use Rattle.lists.proofs.Lengths.{getD-map-upFrom, length-map-upFrom, upFrom-append}
-use Rattle.parity.specs.Parity.{checkTable}
+use Rattle.parity.specs.Model.Parity.{checkTable, Divisor}
 use Rattle.paths.specs.Part.{pathsBefore}
-use Rattle.undetected.specs.Steps.{dividedOf, dividedCounts, evenBetween, upTo, countedFrom, Readable, Divisor}
+use Rattle.undetected.specs.Model.Steps.{dividedOf, dividedCounts, evenBetween, upTo, countedFrom, Readable}
 use Rattle.undetected.proofs.Counting.{upTo-within, even-le}
 use Rattle.undetected.proofs.Counted.{counted-weight}
 use Rattle.undetected.proofs.Counts.{length-dividedCounts, counted-all}
 use Rattle.choice.specs.Choice.{fewer}
-use Rattle.choice.specs.Steps.{laid}
+use Rattle.choice.specs.Model.Steps.{laid}
 use Rattle.choice.proofs.Fewer.{fewer-of-lowest}
 
 -- ---- the counts of one polynomial
@@ -131,8 +131,8 @@ pub record Verdict (w limit found : ℕ) (best mine : List ℕ) : Type 0 where
   pub better : found < limit → T (fewer mine best)
   pub level : limit ≡ found → Agree (w + 1) mine best
 
-module _ (bits d m p : ℕ) (table plain : List ℕ) (readable : Readable bits d table plain) (divisor : Divisor m p) (rows : List ℕ) (w at : ℕ)
-    (made : rows ≡ checkTable bits m p) (placed : at ≡ pathsBefore plain w) where
+module _ {bits d m p at : ℕ} {table plain rows : List ℕ} (readable : Readable bits d table plain) (divisor : Divisor m p)
+    (w : ℕ) (made : rows ≡ checkTable bits m p) (placed : at ≡ pathsBefore plain w) where
   -- no more than there are words, so no limit enters
   even-counted : evenBetween rows m table at (at + getD plain w 0) ≡ dividedOf m p table plain w
   even-counted =
@@ -141,9 +141,10 @@ module _ (bits d m p : ℕ) (table plain : List ℕ) (readable : Readable bits d
       counted-weight bits d m p table plain readable divisor rows w at (evenBetween rows m table at (at + all)) made placed
       (upTo-within all (evenBetween rows m table at (at + all)) (omega arith))
 
-  pub verdict : (best : List ℕ) (limit found : ℕ) → w < d → length best ≡ d → Agree w (dividedCounts m table plain d p) best → limit ≡ getD best w 0
-      → found ≡ upTo limit (evenBetween rows m table at (at + getD plain w 0)) → Verdict w limit found best (dividedCounts m table plain d p)
-  verdict best limit found h sized agree el ef = record {
+  pub verdict : {best : List ℕ} {limit found : ℕ} → w < d → length best ≡ d → Agree w (dividedCounts m table plain d p) best
+      → limit ≡ getD best w 0 → found ≡ upTo limit (evenBetween rows m table at (at + getD plain w 0))
+      → Verdict w limit found best (dividedCounts m table plain d p)
+  verdict {best} {limit} {found} h sized agree el ef = record {
     worse = λ t. fewer-of-lowest best mine (w, omega arith, λ i l. sym (agree i l), omega (arith, found-more t));
     better = λ t. fewer-of-lowest mine best (w, omega (arith, length-dividedCounts m p table plain d), agree, omega (arith, found-less t));
     level = λ t. below-more (λ i. getD mine i 0 ≡ getD best i 0) w agree (omega (arith, found-same t));

@@ -1,10 +1,9 @@
 // The choice: every candidate is compared with the best so far, weight by weight, and drops out at the first weight where another counts fewer.
 // What is `pub` here is for the crate above; docs/DECISIONS.md lists it as internal.
 ghost use mathlib.Core.Path.{_≡_};
-ghost use Prim.Native.Nat.{_+_, _-_, _*_, _^_, _≤_, _<_};
-ghost use lib.ListN.{length, take};
-ghost use Rattle.undetected.specs.Steps.{Readable, dividedCounts};
-ghost use Rattle.choice.specs.Steps.{dropped, aliveBelow, firstOf, LeftAlive, Chose};
+ghost use Prim.Native.Nat.{_+_, _*_, _^_, _≤_};
+ghost use lib.ListN.{length};
+ghost use Rattle.choice.specs.Model.Steps.{dropped, aliveBelow, firstOf, LeftAlive, Chose, ToName, ToChoose, ToCompare};
 use parity::check_table;
 use poly::word::power;
 use undetected::count_from;
@@ -18,7 +17,7 @@ pub struct Outcome {
 
 // Candidate k of degree m: its constant term is 1.
 fn candidate(m: u64, k: usize) -> u64
-    requires { ⌜ (1 ≤ m) × (m ≤ 12) × (k < 2 ^ (m - 1)) ⌝ }
+    requires { ⌜ ToName m k ⌝ }
     ensures { λ r. ⌜ r ≡ 2 ^ m + 2 * k + 1 ⌝ }
 {
     power(m) + 2 * k as u64 + 1
@@ -48,8 +47,7 @@ fn compare(
     d: usize,
     n: usize,
 ) -> [bool; 2048]
-    requires { ⌜ Readable bits d (now table) (now plain) × (1 ≤ m) × (m ≤ 12) × (n ≡ 2 ^ (m - 1)) × (d ≤ length (now undetected)) ⌝ }
-    requires { ⌜ take d (now undetected) ≡ dividedCounts m (now table) (now plain) d (2 ^ m + 1) ⌝ }
+    requires { ⌜ ToCompare bits d m n (now table) (now plain) (now undetected) ⌝ }
     ensures { λ r. ⌜ LeftAlive m d (now (table .entry)) (now (plain .entry)) (now (undetected .entry)) (now (undetected .exit)) r ⌝ }
 {
     let mut alive = [true; 2048];
@@ -122,7 +120,7 @@ pub fn choose(
     m: u64,
     d: usize,
 ) -> Outcome
-    requires { ⌜ Readable bits d (now table) (now plain) × (1 ≤ m) × (m ≤ 12) × (d ≤ length (now undetected)) ⌝ }
+    requires { ⌜ ToChoose bits d m (now table) (now plain) (now undetected) ⌝ }
     ensures { λ r. ⌜ Chose m d (now (table .entry)) (now (plain .entry)) (now (undetected .entry)) (now (undetected .exit)) r ⌝ }
 {
     let n = power(m - 1) as usize;

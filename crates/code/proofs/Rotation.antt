@@ -5,7 +5,6 @@ use mathlib.Core.List.{List}
 use Prim.Native.Nat.{ℕ, suc, _+_, _-_, _%_, _^_, _≤_, _<_}
 use native.Mathlib.Nat.{add-assoc, add-zero, mod-lt, mod-add-mod}
 use native.Mathlib.Omega.{arith}
-use Rattle.lists.specs.Lists.{sum}
 use Rattle.lists.proofs.Sums.{sum-cong, sum-period}
 use Rattle.poly.specs.Poly.{bit}
 use Rattle.poly.proofs.Bits.{fromBits-cong, fromBits-lt, bit-fromBits, fromBits-bits}

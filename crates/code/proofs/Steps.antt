@@ -19,7 +19,7 @@ use Rattle.poly.proofs.Bits.{bit-first, bit-later, bit-zero, bit-low, half-lt, 
 use Rattle.poly.proofs.Product.{⊗-zero, ⊗-step}
 use Rattle.poly.proofs.Remainder.{remainder-zero, remainder-⊕, remainder-double, remainder-small, remainder-lt}
 use Rattle.code.specs.Weight.{output, weight}
-use Rattle.code.specs.Trellis.{place, stateAt, tapped, stepOutput, stepWeight, walk, walkWeight}
+use Rattle.code.specs.Trellis.{place, stateAt, tapped, stepOutput, stepWeight, walkWeight}
 use Rattle.code.proofs.States.{place-period, place-bit, window, window-lt, window-first, window-later, stateAt-push}
 use Rattle.code.proofs.Walks.{word-follows, walkWeight-follows}
 

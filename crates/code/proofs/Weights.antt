@@ -7,9 +7,9 @@ use native.Mathlib.Nat.{le-trans}
 use native.Mathlib.Omega.{arith}
 use lib.Count.{ones, ones-le}
 use lib.ListN.{length, getD, drop, drop-of-length-le}
-use Rattle.lists.specs.Lists.{all}
 use Rattle.lists.proofs.Scan.{drop-next}
 use Rattle.code.specs.Weight.{output, weight}
+use Rattle.code.specs.Model.Steps.{ShortWord}
 use Rattle.code.proofs.Steps.{output-lt}
 
 weight-next : (N : ℕ) (gs : List ℕ) (u i : ℕ) → i < length gs → weight N (drop i gs) u ≡ ones (output N (getD gs i 0) u) + weight N (drop (i + 1) gs) u
@@ -31,6 +31,6 @@ weight-end N gs u i total h e =
     omega arith
 
 -- an output of N bits has at most N ones
-pub ones-output-le : (N g u x y : ℕ) → 0 < N → N ≤ 128 → x ≡ output N g u → y ≡ ones x → y ≤ 128
-ones-output-le N g u x y h q ex ey =
-    subst (λ (z : ℕ). z ≤ 128) (sym (ey ∙ ap ones ex)) (le-trans (ones-le N (output N g u) (output-lt N g u h)) q)
+pub ones-output-le : (N g u x y : ℕ) → ShortWord N u → x ≡ output N g u → y ≡ ones x → y ≤ 128
+ones-output-le N g u x y w ex ey =
+    subst (λ (z : ℕ). z ≤ 128) (sym (ey ∙ ap ones ex)) (le-trans (ones-le N (output N g u) (output-lt N g u (w .some-bits))) (w .at-most-128))

@@ -1,36 +1,26 @@
--- What the encoder and the weight of a word answer and leave, for every input. Their questions are 3, 4, 5, 8, 9, then 10 for the encoder's
--- output, then 12.
+-- What the encoder and the weight of a word answer and leave, for every input. Their questions are 3, 4, 5, 8 and 9, then 10 for the encoder's
+-- output, then 12; they take no check degree and no threshold, whatever the order has there.
 -- Assumes nothing.
 use mathlib.Core.List.{List, [], _∷_, _++_}
 use Prim.Native.Nat.{ℕ, _*_}
 use lib.ListN.{length}
 use Rattle.lists.specs.Lists.{padded}
-use Rattle.order.specs.Questions.{Question, firstNo, unless, shapeQuestions, generatorQuestions, room, below}
+use Rattle.order.specs.Questions.{Question, firstNo, room, below}
+use Rattle.order.specs.Order.{Order, orderQuestions}
+use Rattle.order.specs.Answer.{Answer, accepted, unless, unlessRefused}
+use Rattle.order.specs.declared.questions.Takes.the-variants as T
 use Rattle.code.specs.Weight.{weight, codeword}
 
--- what a call answers, with document 01's values and the numbers of its refusals
-pub data Answer : Type 0 where
-  weighs : ℕ → Answer
-  encoded : Answer
-  refused : ℕ → Answer
+unfoldable pub weighQuestions : Order → ℕ → List Question
+weighQuestions o u = orderQuestions T.Code o ++ (below (o .N) u ∷ [])
 
-unfoldable pub codeQuestions : ℕ → ℕ → List ℕ → List Question
-codeQuestions v N gs = shapeQuestions (length gs) v N ++ generatorQuestions v gs
+unfoldable pub weighCall : Order → ℕ → Answer ℕ
+weighCall o u = unless (firstNo (weighQuestions o u)) (accepted (weight (o .N) (o .generators) u))
 
-unfoldable pub weighQuestions : ℕ → ℕ → List ℕ → ℕ → List Question
-weighQuestions v N gs u = codeQuestions v N gs ++ (below N u ∷ [])
+unfoldable pub encodeQuestions : Order → ℕ → ℕ → List Question
+encodeQuestions o u outputs = orderQuestions T.Code o ++ (room (length (o .generators) * o .N) outputs ∷ below (o .N) u ∷ [])
 
-unfoldable pub weighCall : ℕ → ℕ → List ℕ → ℕ → Answer
-weighCall v N gs u = unless refused (firstNo (weighQuestions v N gs u)) (weighs (weight N gs u))
-
-unfoldable pub encodeQuestions : ℕ → ℕ → List ℕ → ℕ → ℕ → List Question
-encodeQuestions v N gs u outputs = codeQuestions v N gs ++ (room (length gs * N) outputs ∷ below N u ∷ [])
-
-unfoldable pub encodeCall : ℕ → ℕ → List ℕ → ℕ → ℕ → Answer
-encodeCall v N gs u outputs = unless refused (firstNo (encodeQuestions v N gs u outputs)) encoded
-
--- the lent output: the codeword and zeros after it, or as it was where the call is refused
-unfoldable pub outputAfter : Answer → ℕ → List ℕ → ℕ → List ℕ → List ℕ
-outputAfter encoded N gs u out = padded (length out) 0 (codeword N gs u)
-outputAfter (weighs w) N gs u out = out
-outputAfter (refused k) N gs u out = out
+-- the lent output is left with the codeword and zeros after it, or as it was where the call is refused
+unfoldable pub encodeCall : Order → ℕ → List ℕ → Answer (Unit {0}) × List ℕ
+encodeCall o u output =
+    unlessRefused (firstNo (encodeQuestions o u (length output))) output (accepted tt, padded (length output) 0 (codeword (o .N) (o .generators) u))

@@ -2,3 +2,4 @@ pub mod Weight
 pub mod Trellis
 pub mod Calls
 pub mod Answers
+pub mod Model

@@ -1,9 +1,10 @@
 // Products modulo x^N + 1, for words of N = `bits` bits.
 ghost use mathlib.Core.Path.{_≡_};
-ghost use Prim.Native.Nat.{_+_, _*_, _^_, _<_, _≤_};
+ghost use Prim.Native.Nat.{_+_, _*_, _^_, _<_};
 ghost use Rattle.poly.specs.Poly.{_⊕_, register};
 ghost use Rattle.poly.specs.Word.{number};
 ghost use Rattle.code.specs.Weight.{output};
+ghost use Rattle.code.specs.Model.Steps.{ShortWord, ToMultiply};
 use poly::word::Word;
 use poly::word::bit_at;
 use poly::word::low_bits;
@@ -13,7 +14,7 @@ use poly::word::xor;
 
 // x times the word: every bit moves up by one, and the highest comes back as the lowest.
 pub fn turn(w: Word, bits: u64) -> Word
-    requires { ⌜ (0 < bits) × (bits ≤ 128) × (number w < 2 ^ bits) ⌝ }
+    requires { ⌜ ShortWord bits (number w) ⌝ }
     ensures { λ r. ⌜ number r ≡ register bits (2 ^ bits + 1) (number w) 0 ⌝ }
 {
     let top = bit_at(w, bits - 1);
@@ -33,7 +34,7 @@ fn add_times(w: Word, b: u64, u: Word) -> Word
 
 // u times g, where g has at most v + 1 coefficients: the highest coefficient first.
 pub fn cyclic_product(u: Word, g: u64, v: u64, bits: u64) -> Word
-    requires { ⌜ (0 < bits) × (bits ≤ 128) × (v < 63) × (number u < 2 ^ bits) × (g < 2 ^ (v + 1)) ⌝ }
+    requires { ⌜ ToMultiply (number u) g v bits ⌝ }
     ensures { λ r. ⌜ number r ≡ output bits g (number u) ⌝ }
 {
     let mut r = make(0, 0);

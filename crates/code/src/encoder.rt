@@ -1,15 +1,15 @@
 // The encoder, a step at a time: the state takes one bit of the word in, and each generator sends the parity of the inputs that it taps.
 ghost use mathlib.Core.Path.{_≡_};
-ghost use mathlib.Core.Bool.{true};
 ghost use mathlib.Core.List.{map};
-ghost use Prim.Native.Nat.{_+_, _*_, _^_, _<_, _≤_};
-ghost use lib.ListN.{length, replicate};
+ghost use Prim.Native.Nat.{_+_, _≤_};
+ghost use lib.ListN.{length};
 ghost use lib.Seq.{sets};
 ghost use Rattle.poly.specs.Word.{number};
-ghost use Rattle.lists.specs.Lists.{all, padded};
-ghost use Rattle.order.specs.Questions.{inRange};
+ghost use Rattle.lists.specs.Lists.{padded};
 ghost use Rattle.code.specs.Weight.{codeword};
 ghost use Rattle.code.specs.Trellis.{tapped, stateAt};
+ghost use Rattle.code.specs.Model.Steps.{HasStates, ToEncode, codeOf};
+use lists::clear_bytes;
 use poly::word::Word;
 use poly::word::bit_at;
 use poly::word::power;
@@ -19,16 +19,6 @@ pub fn parity(g: u64, window: u64) -> u8
     ensures { λ r. ⌜ r ≡ tapped window g ⌝ }
 {
     (u64::count_ones(g & window) % 2) as u8
-}
-
-pub fn clear(output: &mut [u8])
-    ensures { λ _. ⌜ now (output .exit) ≡ replicate (length (now (output .entry))) 0 ⌝ }
-{
-    let mut i = 0;
-    while i < output.len() {
-        output[i] = 0;
-        i += 1;
-    }
 }
 
 // The bits of one step, from index `at` on.
@@ -45,7 +35,7 @@ fn put_step(output: &mut [u8], at: usize, generators: &[u64], window: u64)
 
 // The state before the first step: the word's last v bits.
 fn first_state(word: Word, v: u64, bits: u64) -> u64
-    requires { ⌜ (v ≤ 8) × (v ≤ bits) × (bits ≤ 128) ⌝ }
+    requires { ⌜ HasStates v bits ⌝ }
     ensures { λ r. ⌜ r ≡ stateAt v bits (number word) 0 ⌝ }
 {
     let mut s = 0;
@@ -59,10 +49,10 @@ fn first_state(word: Word, v: u64, bits: u64) -> u64
 
 // All steps: the codeword, and zeros after it.
 pub fn encode_steps(output: &mut [u8], generators: &[u64], v: u64, bits: u64, word: Word)
-    requires { ⌜ (0 < bits) × (v ≤ 8) × (v ≤ bits) × (bits ≤ 128) × (number word < 2 ^ bits) × (all (inRange v) (now generators) ≡ true) × (length (now generators) * bits ≤ length (now output)) ⌝ }
+    requires { ⌜ ToEncode (codeOf (now generators) v bits) (number word) (length (now output)) ⌝ }
     ensures { λ _. ⌜ now (output .exit) ≡ padded (length (now (output .entry))) 0 (codeword bits (now (generators .entry)) (number word)) ⌝ }
 {
-    clear(output);
+    clear_bytes(output);
     let mut s = first_state(word, v, bits);
     let mut t = 0;
     let mut at = 0;

@@ -4,35 +4,34 @@
 use mathlib.Core.List.{List, [], _∷_, _++_}
 use Prim.Native.Nat.{ℕ, zero, suc, _-_, _*_, _/_, _^_}
 use Rattle.poly.specs.Poly.{_⊕_, remainder}
-use Rattle.order.specs.Questions.{Question, firstNo, unless, wordLength, checkDegree, checkPolynomial, below}
-
--- what a call answers, with document 01's values and the numbers of its refusals
-pub data Answer : Type 0 where
-  word : ℕ → Answer
-  message : ℕ → Answer
-  damaged : ℕ → Answer
-  divisible : Answer
-  indivisible : Answer
-  refused : ℕ → Answer
+use Rattle.order.specs.Questions.{Question, firstNo, wordLength, checkDegree, checkPolynomial, below}
+use Rattle.order.specs.Answer.{Answer, accepted, unless}
 
 -- x^m f plus the remainder of x^m f
 unfoldable pub append : ℕ → ℕ → ℕ → ℕ
 append m p f = (f * 2 ^ m) ⊕ remainder m p (f * 2 ^ m)
 
--- the message of a word whose remainder is 0, or the nonzero remainder
-unfoldable pub stripped : ℕ → ℕ → Answer
+-- what stripping gives: the message of a word whose remainder is 0, or the nonzero remainder
+pub data Stripping : Type 0 where
+  message : ℕ → Stripping
+  damaged : ℕ → Stripping
+
+unfoldable pub stripped : ℕ → ℕ → Stripping
 stripped f zero = message f
 stripped f (suc r) = damaged (suc r)
 
-unfoldable pub strip : ℕ → ℕ → ℕ → Answer
+unfoldable pub strip : ℕ → ℕ → ℕ → Stripping
 strip m p u = stripped (u / 2 ^ m) (remainder m p u)
 
-unfoldable pub tested : ℕ → Answer
+-- whether p divides the word
+pub data Divisibility : Type 0 where
+  divisible indivisible : Divisibility
+
+unfoldable pub tested : ℕ → Divisibility
 tested zero = divisible
 tested (suc r) = indivisible
 
--- whether p divides the word
-unfoldable pub test : ℕ → ℕ → ℕ → Answer
+unfoldable pub test : ℕ → ℕ → ℕ → Divisibility
 test m p u = tested (remainder m p u)
 
 -- ---- the calls
@@ -46,11 +45,11 @@ unfoldable pub wordQuestions : ℕ → ℕ → ℕ → ℕ → ℕ → List Ques
 wordQuestions N m p k u = polynomialQuestions N m p ++ (below k u ∷ [])
 
 -- a message has K = N - m bits
-unfoldable pub appendCall : ℕ → ℕ → ℕ → ℕ → Answer
-appendCall N m p f = unless refused (firstNo (wordQuestions N m p (N - m) f)) (word (append m p f))
+unfoldable pub appendCall : ℕ → ℕ → ℕ → ℕ → Answer ℕ
+appendCall N m p f = unless (firstNo (wordQuestions N m p (N - m) f)) (accepted (append m p f))
 
-unfoldable pub stripCall : ℕ → ℕ → ℕ → ℕ → Answer
-stripCall N m p u = unless refused (firstNo (wordQuestions N m p N u)) (strip m p u)
+unfoldable pub stripCall : ℕ → ℕ → ℕ → ℕ → Answer Stripping
+stripCall N m p u = unless (firstNo (wordQuestions N m p N u)) (accepted (strip m p u))
 
-unfoldable pub testCall : ℕ → ℕ → ℕ → ℕ → Answer
-testCall N m p u = unless refused (firstNo (wordQuestions N m p N u)) (test m p u)
+unfoldable pub testCall : ℕ → ℕ → ℕ → ℕ → Answer Divisibility
+testCall N m p u = unless (firstNo (wordQuestions N m p N u)) (accepted (test m p u))

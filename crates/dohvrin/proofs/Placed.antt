@@ -10,7 +10,8 @@ use lib.ListN.{length, getD, take, drop, length-drop}
 use lib.Seq.{length-take-le}
 use borrow.Author.Tests.{leb-true, ltb-true, le-leb}
 use Rattle.lists.proofs.Tests.{both}
-use Rattle.paths.specs.Part.{pathsBefore, partFits, partOf, partNumber, beforeOr}
+use Rattle.paths.specs.Part.{pathsBefore, partFits, partOf, partNumber}
+use Rattle.paths.specs.Model.Part.{beforeOr}
 use Rattle.answers.specs.declared.PartAnswer.{PartAnswer}
 use Rattle.answers.specs.Answers.{partAnswer}
 

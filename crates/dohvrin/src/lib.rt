@@ -1,16 +1,16 @@
-// The calls for hosts in C and Rust: plain numbers and slices in, structs out. include/dohvrin.h says what each takes and leaves.
+// The calls for hosts in C and Rust: an order, numbers and slices in, structs out. include/dohvrin.h says what each takes and leaves.
 ghost use mathlib.Core.Path.{_≡_};
 ghost use Prim.Native.Nat.{_+_, _*_, _^_};
 ghost use Rattle.order.specs.Order.{read};
-ghost use Rattle.order.specs.Answers.{recordOf};
+ghost use Rattle.order.specs.Answers.{orderIn};
 ghost use Rattle.text.specs.Calls.{rowCall, refusalCall};
 ghost use Rattle.crc.specs.Check.{appendCall, stripCall, testCall};
-ghost use Rattle.code.specs.Calls.{weighCall};
-ghost use Rattle.events.specs.Calls.{collectCall};
-ghost use Rattle.listing.specs.Calls.{listCall};
-ghost use Rattle.search.specs.Calls.{searchCall, countCall, orderWith};
-ghost use Rattle.answers.specs.Answers.{checkAnswer, codeAnswer, EncodedAs, eventsAnswer, pathsAnswer, rowAnswer, countsAnswer, partAnswer, orderAnswer, textAnswer};
-use answers::Answer;
+ghost use Rattle.code.specs.Calls.{weighCall, encodeCall};
+ghost use Rattle.collection.specs.Calls.{eventTables, collectCall};
+ghost use Rattle.listing.specs.Calls.{pathTables, listCall};
+ghost use Rattle.search.specs.Calls.{searchTables, searchCall, countCall};
+ghost use Rattle.answers.specs.Answers.{numberAnswer, wordAnswer, told, toldWith, strippedAnswer, testedAnswer, numbered, pathsAnswer, rowAnswer, partAnswer, orderAnswer};
+use answers::HostAnswer;
 use answers::ListAnswer;
 use answers::OrderAnswer;
 use answers::PartAnswer;
@@ -21,7 +21,6 @@ use answers::encoded;
 use answers::listed;
 use answers::part_answer;
 use answers::reading;
-use answers::record_of;
 use answers::searched;
 use answers::stripped;
 use answers::tested;
@@ -29,12 +28,13 @@ use answers::weighed;
 use answers::written;
 use code::encode;
 use code::weigh;
+use collection::collect;
 use crc::append;
 use crc::strip;
 use crc::test;
 use events::Event;
-use events::collect;
 use listing::list;
+use order::record::OrderRecord;
 use order::record::read_order;
 use paths::part;
 use paths::paths_before;
@@ -46,70 +46,72 @@ use text::write_row;
 
 // The word of a message.
 #[no_mangle]
-pub extern "C" fn dohvrin_append(bits: u64, m: u64, polynomial: u64, low: u64, high: u64) -> Answer
-    ensures { λ r. ⌜ r ≡ checkAnswer (appendCall bits m polynomial (high * 2 ^ 64 + low)) ⌝ }
+pub extern "C" fn dohvrin_append(
+    bits: u64,
+    m: u64,
+    polynomial: u64,
+    low: u64,
+    high: u64,
+) -> HostAnswer
+    ensures { λ r. ⌜ r ≡ told wordAnswer (appendCall bits m polynomial (high * 2 ^ 64 + low)) ⌝ }
 {
     appended(append(bits, m, polynomial, make(low, high)))
 }
 
 // The message of a word, or its nonzero remainder.
 #[no_mangle]
-pub extern "C" fn dohvrin_strip(bits: u64, m: u64, polynomial: u64, low: u64, high: u64) -> Answer
-    ensures { λ r. ⌜ r ≡ checkAnswer (stripCall bits m polynomial (high * 2 ^ 64 + low)) ⌝ }
+pub extern "C" fn dohvrin_strip(
+    bits: u64,
+    m: u64,
+    polynomial: u64,
+    low: u64,
+    high: u64,
+) -> HostAnswer
+    ensures { λ r. ⌜ r ≡ told strippedAnswer (stripCall bits m polynomial (high * 2 ^ 64 + low)) ⌝ }
 {
     stripped(strip(bits, m, polynomial, make(low, high)))
 }
 
 // Whether the polynomial divides a word.
 #[no_mangle]
-pub extern "C" fn dohvrin_test(bits: u64, m: u64, polynomial: u64, low: u64, high: u64) -> Answer
-    ensures { λ r. ⌜ r ≡ checkAnswer (testCall bits m polynomial (high * 2 ^ 64 + low)) ⌝ }
+pub extern "C" fn dohvrin_test(
+    bits: u64,
+    m: u64,
+    polynomial: u64,
+    low: u64,
+    high: u64,
+) -> HostAnswer
+    ensures { λ r. ⌜ r ≡ told testedAnswer (testCall bits m polynomial (high * 2 ^ 64 + low)) ⌝ }
 {
     tested(test(bits, m, polynomial, make(low, high)))
 }
 
 // The weight of a word.
 #[no_mangle]
-pub extern "C" fn dohvrin_weigh(
-    generators: &[u64],
-    v: u64,
-    bits: u64,
-    low: u64,
-    high: u64,
-) -> Answer
-    ensures { λ r. ⌜ r ≡ codeAnswer (weighCall v bits (now (generators .entry)) (high * 2 ^ 64 + low)) ⌝ }
+pub extern "C" fn dohvrin_weigh(order: OrderRecord, low: u64, high: u64) -> HostAnswer
+    ensures { λ r. ⌜ r ≡ told numberAnswer (weighCall (orderIn order) (high * 2 ^ 64 + low)) ⌝ }
 {
-    weighed(weigh(generators, v, bits, make(low, high)))
+    weighed(weigh(order, make(low, high)))
 }
 
 // The codeword of a word.
 #[no_mangle]
-pub extern "C" fn dohvrin_encode(
-    generators: &[u64],
-    v: u64,
-    bits: u64,
-    low: u64,
-    high: u64,
-    output: &mut [u8],
-) -> u64
-    ensures { λ r. ⌜ EncodedAs r v bits (now (generators .entry)) (high * 2 ^ 64 + low) (now (output .entry)) (now (output .exit)) ⌝ }
+pub extern "C" fn dohvrin_encode(order: OrderRecord, low: u64, high: u64, output: &mut [u8]) -> u64
+    ensures { λ r. ⌜ (r, now (output .exit)) ≡ numbered (encodeCall (orderIn order) (high * 2 ^ 64 + low) (now (output .entry))) ⌝ }
 {
-    encoded(encode(generators, v, bits, make(low, high), output))
+    encoded(encode(order, make(low, high), output))
 }
 
-// The events of a code, into the lent table.
+// The events of an order's code, into the lent table.
 #[no_mangle]
 pub extern "C" fn dohvrin_collect(
-    generators: &[u64],
-    v: u64,
-    bits: u64,
-    d: u64,
-    table: &mut [Event],
+    order: OrderRecord,
+    events: &mut [Event],
     work: &mut [u64],
-) -> Answer
-    ensures { λ r. ⌜ (r, (now (table .exit), now (work .exit))) ≡ eventsAnswer (collectCall (now (generators .entry)) v bits d (now (table .entry)) (now (work .entry))) ⌝ }
+) -> HostAnswer
+    ensures { λ r. ⌜ (r, eventTables (now (events .exit)) (now (work .exit))) ≡ toldWith numberAnswer (collectCall (orderIn order) (eventTables (now (events .entry)) (now (work .entry)))) ⌝ }
 {
-    collected(collect(generators, v, bits, d, table, work))
+    collected(collect(order, events, work))
 }
 
 // The order of a record.
@@ -120,61 +122,39 @@ pub extern "C" fn dohvrin_read_order(bytes: &[u8]) -> OrderAnswer
     reading(read_order(bytes))
 }
 
-// The paths of a code, into the lent tables.
+// The paths of an order's code, into the lent tables.
 #[no_mangle]
 pub extern "C" fn dohvrin_list(
-    generators: &[u64],
-    v: u64,
-    bits: u64,
-    d: u64,
+    order: OrderRecord,
     events: &mut [Event],
     paths: &mut [u64],
-    counts: &mut [u64],
+    plain: &mut [u64],
     work: &mut [u64],
 ) -> ListAnswer
-    ensures { λ r. ⌜ (r, (now (events .exit), (now (paths .exit), (now (counts .exit), now (work .exit))))) ≡ pathsAnswer (listCall (now (generators .entry)) v bits d (now (events .entry), (now (paths .entry), (now (counts .entry), now (work .entry))))) ⌝ }
+    ensures { λ r. ⌜ (r, pathTables (now (events .exit)) (now (paths .exit)) (now (plain .exit)) (now (work .exit))) ≡ pathsAnswer (listCall (orderIn order) (pathTables (now (events .entry)) (now (paths .entry)) (now (plain .entry)) (now (work .entry)))) ⌝ }
 {
-    listed(list(generators, v, bits, d, events, paths, counts, work))
+    listed(list(order, events, paths, plain, work))
 }
 
 // The best check polynomial of an order.
 #[no_mangle]
 pub extern "C" fn dohvrin_search(
-    generators: &[u64],
-    v: u64,
-    bits: u64,
-    m: u64,
-    d: u64,
+    order: OrderRecord,
     events: &mut [Event],
     paths: &mut [u64],
     plain: &mut [u64],
     undetected: &mut [u64],
     work: &mut [u64],
 ) -> SearchAnswer
-    ensures { λ r. ⌜ (r, ((now (events .exit), (now (paths .exit), (now (plain .exit), now (work .exit)))), now (undetected .exit))) ≡ rowAnswer (searchCall (orderWith (now (generators .entry)) v bits m d) ((now (events .entry), (now (paths .entry), (now (plain .entry), now (work .entry)))), now (undetected .entry))) ⌝ }
+    ensures { λ r. ⌜ (r, searchTables (now (events .exit)) (now (paths .exit)) (now (plain .exit)) (now (undetected .exit)) (now (work .exit))) ≡ rowAnswer (searchCall (orderIn order) (searchTables (now (events .entry)) (now (paths .entry)) (now (plain .entry)) (now (undetected .entry)) (now (work .entry)))) ⌝ }
 {
-    searched(search(
-        generators,
-        v,
-        bits,
-        m,
-        d,
-        events,
-        paths,
-        plain,
-        undetected,
-        work,
-    ))
+    searched(search(order, events, paths, plain, undetected, work))
 }
 
 // The undetected counts of one polynomial.
 #[no_mangle]
 pub extern "C" fn dohvrin_count(
-    generators: &[u64],
-    v: u64,
-    bits: u64,
-    m: u64,
-    d: u64,
+    order: OrderRecord,
     polynomial: u64,
     events: &mut [Event],
     paths: &mut [u64],
@@ -182,21 +162,9 @@ pub extern "C" fn dohvrin_count(
     undetected: &mut [u64],
     work: &mut [u64],
 ) -> ListAnswer
-    ensures { λ r. ⌜ (r, ((now (events .exit), (now (paths .exit), (now (plain .exit), now (work .exit)))), now (undetected .exit))) ≡ countsAnswer (countCall (orderWith (now (generators .entry)) v bits m d) polynomial ((now (events .entry), (now (paths .entry), (now (plain .entry), now (work .entry)))), now (undetected .entry))) ⌝ }
+    ensures { λ r. ⌜ (r, searchTables (now (events .exit)) (now (paths .exit)) (now (plain .exit)) (now (undetected .exit)) (now (work .exit))) ≡ pathsAnswer (countCall (orderIn order) polynomial (searchTables (now (events .entry)) (now (paths .entry)) (now (plain .entry)) (now (undetected .entry)) (now (work .entry)))) ⌝ }
 {
-    listed(count(
-        generators,
-        v,
-        bits,
-        m,
-        d,
-        polynomial,
-        events,
-        paths,
-        plain,
-        undetected,
-        work,
-    ))
+    listed(count(order, polynomial, events, paths, plain, undetected, work))
 }
 
 // The words of one weight in a path table.
@@ -216,28 +184,23 @@ pub extern "C" fn dohvrin_part(table: &[u64], counts: &[u64], w: u64) -> PartAns
 // The text of a row.
 #[no_mangle]
 pub extern "C" fn dohvrin_row_text(
-    generators: &[u64],
-    v: u64,
-    bits: u64,
-    m: u64,
-    d: u64,
+    order: OrderRecord,
     events: u64,
     paths: u64,
     polynomial: u64,
     plain: &[u64],
     undetected: &[u64],
     text: &mut [u8],
-) -> Answer
-    ensures { λ r. ⌜ (r, now (text .exit)) ≡ textAnswer (rowCall (recordOf (orderWith (now (generators .entry)) v bits m d)) events paths polynomial (now (plain .entry)) (now (undetected .entry)) (now (text .entry))) ⌝ }
+) -> HostAnswer
+    ensures { λ r. ⌜ (r, now (text .exit)) ≡ toldWith numberAnswer (rowCall (orderIn order) events paths polynomial (now (plain .entry)) (now (undetected .entry)) (now (text .entry))) ⌝ }
 {
-    let o = record_of(generators, v, bits, m, d);
-    written(write_row(o, events, paths, polynomial, plain, undetected, text))
+    written(write_row(order, events, paths, polynomial, plain, undetected, text))
 }
 
 // The text of a refusal; `left` is told with number 15 alone.
 #[no_mangle]
-pub extern "C" fn dohvrin_refusal_text(number: u64, left: u64, text: &mut [u8]) -> Answer
-    ensures { λ r. ⌜ (r, now (text .exit)) ≡ textAnswer (refusalCall number left (now (text .entry))) ⌝ }
+pub extern "C" fn dohvrin_refusal_text(number: u64, left: u64, text: &mut [u8]) -> HostAnswer
+    ensures { λ r. ⌜ (r, now (text .exit)) ≡ toldWith numberAnswer (refusalCall number left (now (text .entry))) ⌝ }
 {
     written(write_refusal(number, left, text))
 }

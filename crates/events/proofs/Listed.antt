@@ -14,7 +14,7 @@ use Rattle.lists.proofs.Sorted.{Sorted, sorted-known, upFrom-sorted, filter-sor
 use Rattle.lists.proofs.Keys.{By, ByThen, by-asymmetric, byThen-asymmetric, blocks-sorted}
 use Rattle.code.specs.Trellis.{walkWeight, firstMeets}
 use Rattle.order.specs.Order.{Order}
-use Rattle.events.specs.Events.{ErrorEvent, listed, eventsOfLength, eventsOfState, events}
+use Rattle.events.specs.Events.{ErrorEvent, isListed, eventsOfLength, eventsOfState, events}
 
 -- e is an event of the order's code, at most N steps long and of weight below d
 pub record Listed (o : Order) (e : ErrorEvent) : Type 0 where
@@ -37,18 +37,18 @@ eventOf o i l c = record { state = i; length = l; weight = walkWeight (o .genera
 module _ (o : Order) where
   -- ---- the members
 
-  pub of-eventsOfLength : (i l : ℕ) {e : ErrorEvent} → List·Memᴰ e (eventsOfLength o i l) → (c : ℕ) × (c < 2 ^ l) × T (listed o i l c) × (eventOf o i l c ≡ e)
+  pub of-eventsOfLength : (i l : ℕ) {e : ErrorEvent} → List·Memᴰ e (eventsOfLength o i l) → (c : ℕ) × (c < 2 ^ l) × T (isListed o i l c) × (eventOf o i l c ≡ e)
   unfolding eventsOfLength
   of-eventsOfLength i l m =
-      let h = Memᴰ·of-map (eventOf o i l) (filter (listed o i l) (upFrom 0 (2 ^ l))) m in
-      let k = of-filter (listed o i l) (upFrom 0 (2 ^ l)) (h .1) in
+      let h = Memᴰ·of-map (eventOf o i l) (filter (isListed o i l) (upFrom 0 (2 ^ l))) m in
+      let k = of-filter (isListed o i l) (upFrom 0 (2 ^ l)) (h .1) in
       let b = upFrom-bounds 0 (2 ^ l) (k .0) in
       (h .0, omega arith, k .1, h .2)
 
-  pub in-eventsOfLength : (i l c : ℕ) → c < 2 ^ l → T (listed o i l c) → List·Memᴰ (eventOf o i l c) (eventsOfLength o i l)
+  pub in-eventsOfLength : (i l c : ℕ) → c < 2 ^ l → T (isListed o i l c) → List·Memᴰ (eventOf o i l c) (eventsOfLength o i l)
   unfolding eventsOfLength
   in-eventsOfLength i l c h t =
-      Memᴰ·map (eventOf o i l) (in-filter (listed o i l) (upFrom 0 (2 ^ l)) (in-upFrom 0 (2 ^ l) (omega arith) (omega arith)) t)
+      Memᴰ·map (eventOf o i l) (in-filter (isListed o i l) (upFrom 0 (2 ^ l)) (in-upFrom 0 (2 ^ l) (omega arith) (omega arith)) t)
 
   of-eventsOfState : (i : ℕ) {e : ErrorEvent} → List·Memᴰ e (eventsOfState o i) → (l : ℕ) × (1 ≤ l) × (l ≤ o .N) × List·Memᴰ e (eventsOfLength o i l)
   unfolding eventsOfState
@@ -57,8 +57,8 @@ module _ (o : Order) where
       let b = upFrom-bounds 1 (o .N) (h .1) in
       (h .0, b .0, omega arith, h .2)
 
-  listed-eventOf : (i l c : ℕ) → i < 2 ^ o .v → 1 ≤ l → l ≤ o .N → c < 2 ^ l → T (listed o i l c) → Listed o (eventOf o i l c)
-  unfolding listed
+  listed-eventOf : (i l c : ℕ) → i < 2 ^ o .v → 1 ≤ l → l ≤ o .N → c < 2 ^ l → T (isListed o i l c) → Listed o (eventOf o i l c)
+  unfolding isListed
   listed-eventOf i l c hi hl hN hc t =
       let w : ℕ = walkWeight (o .generators) (o .v) l i c in
       let h = T-and (firstMeets (o .v) i l i c) (ltb w (o .d)) .0 t in
@@ -77,8 +77,8 @@ module _ (o : Order) where
   pub eventOf-listed : {e : ErrorEvent} → Listed o e → e ≡ eventOf o (e .state) (e .length) (e .input)
   eventOf-listed {e} h = λ k. record { state = e .state; length = e .length; weight = h .weighs k; input = e .input }
 
-  passes-listed : {e : ErrorEvent} → Listed o e → T (listed o (e .state) (e .length) (e .input))
-  unfolding listed
+  passes-listed : {e : ErrorEvent} → Listed o e → T (isListed o (e .state) (e .length) (e .input))
+  unfolding isListed
   passes-listed {e} h =
       let w : ℕ = walkWeight (o .generators) (o .v) (e .length) (e .state) (e .input) in
       let light : w < o .d = subst (λ x. x < o .d) (h .weighs) (h .below) in
@@ -99,8 +99,8 @@ module _ (o : Order) where
   pub eventsOfLength-sorted : (i l : ℕ) → Sorted (By (λ (e : ErrorEvent). e .input)) (eventsOfLength o i l)
   unfolding eventsOfLength
   eventsOfLength-sorted i l =
-      map-sorted _<_ (By (λ e. e .input)) (eventOf o i l) (λ c c′ h. h) (filter (listed o i l) (upFrom 0 (2 ^ l)))
-      (filter-sorted _<_ (listed o i l) (upFrom 0 (2 ^ l)) (upFrom-sorted 0 (2 ^ l)))
+      map-sorted _<_ (By (λ e. e .input)) (eventOf o i l) (λ c c′ h. h) (filter (isListed o i l) (upFrom 0 (2 ^ l)))
+      (filter-sorted _<_ (isListed o i l) (upFrom 0 (2 ^ l)) (upFrom-sorted 0 (2 ^ l)))
 
   length-of-events : (i l : ℕ) (e : ErrorEvent) → List·Memᴰ e (eventsOfLength o i l) → e .length ≡ l
   length-of-events i l e m = sym (ap (λ (f : ErrorEvent). f .length) (of-eventsOfLength i l m .3))

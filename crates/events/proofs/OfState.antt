@@ -11,7 +11,7 @@ use Rattle.lists.proofs.Sorted.{upFrom-sorted, filter-sorted, map-sorted, flatM
 use Rattle.lists.proofs.Distinct.{Distinct}
 use Rattle.code.specs.Trellis.{walkWeight}
 use Rattle.order.specs.Order.{Order}
-use Rattle.events.specs.Events.{ErrorEvent, listed, eventsOfLength, eventsOfState, events}
+use Rattle.events.specs.Events.{ErrorEvent, isListed, eventsOfLength, eventsOfState, events}
 use Rattle.events.proofs.Listed.{Listed, of-events, in-events}
 
 -- e is an event of the list, and its state is i
@@ -26,7 +26,7 @@ module _ (o : Order) where
 
   made-of : (i l : ℕ) {e : ErrorEvent} → List·Memᴰ e (eventsOfLength o i l) → (c : ℕ) × (eventWith i l c ≡ e)
   unfolding eventsOfLength
-  made-of i l m = let h = Memᴰ·of-map (eventWith i l) (filter (listed o i l) (upFrom 0 (2 ^ l))) m in (h .0, h .2)
+  made-of i l m = let h = Memᴰ·of-map (eventWith i l) (filter (isListed o i l) (upFrom 0 (2 ^ l))) m in (h .0, h .2)
 
   state-of : (i : ℕ) {e : ErrorEvent} → List·Memᴰ e (eventsOfState o i) → e .state ≡ i
   unfolding eventsOfState
@@ -53,7 +53,7 @@ module _ (o : Order) where
   unfolding eventsOfLength
   eventsOfLength-distinct i l =
       map-sorted _<_ (λ x y. x ≢ y) (eventWith i l) (λ c c′ h p. let q = ap (λ (e : ErrorEvent). e .input) p in omega arith)
-      (filter (listed o i l) (upFrom 0 (2 ^ l))) (filter-sorted _<_ (listed o i l) (upFrom 0 (2 ^ l)) (upFrom-sorted 0 (2 ^ l)))
+      (filter (isListed o i l) (upFrom 0 (2 ^ l))) (filter-sorted _<_ (isListed o i l) (upFrom 0 (2 ^ l)) (upFrom-sorted 0 (2 ^ l)))
 
   length-of : (i l : ℕ) {e : ErrorEvent} → List·Memᴰ e (eventsOfLength o i l) → e .length ≡ l
   length-of i l m = sym (ap (λ (e : ErrorEvent). e .length) (made-of i l m .1))

@@ -1,6 +1,6 @@
 -- The error events of a code (document 01: events; document 000: irreducible error events), as one ordered list.
 -- Assumes nothing.
-use Prim.Native.Nat.{ℕ, zero, _/_, _%_, _^_}
+use Prim.Native.Nat.{ℕ, _/_, _%_, _^_}
 use mathlib.Core.Bool.{Bool, _&&_}
 use mathlib.Core.List.{List, map, flatMap}
 use lib.Dec.{ltb}
@@ -17,14 +17,14 @@ pub record ErrorEvent : Type 0 where
   pub input : ℕ
 
 -- the walk of l steps from i with input number c is an event, and weighs less than the threshold
-unfoldable pub listed : Order → ℕ → ℕ → ℕ → Bool
-listed o i l c = firstMeets (o .v) i l i c && ltb (walkWeight (o .generators) (o .v) l i c) (o .d)
+unfoldable pub isListed : Order → ℕ → ℕ → ℕ → Bool
+isListed o i l c = firstMeets (o .v) i l i c && ltb (walkWeight (o .generators) (o .v) l i c) (o .d)
 
 -- the events of state i and length l, by input number
 unfoldable pub eventsOfLength : Order → ℕ → ℕ → List ErrorEvent
 eventsOfLength o i l =
     map (λ c. record { state = i; length = l; weight = walkWeight (o .generators) (o .v) l i c; input = c })
-    (filter (listed o i l) (upFrom 0 (2 ^ l)))
+    (filter (isListed o i l) (upFrom 0 (2 ^ l)))
 
 -- the events of state i, by length
 unfoldable pub eventsOfState : Order → ℕ → List ErrorEvent

@@ -1,4 +1,1 @@
 pub mod Events
-pub mod Tables
-pub mod Backward
-pub mod Calls

@@ -1,35 +1,33 @@
--- What the listing answers and leaves, at each of its ends: a question that says no, too many events, too many paths, or all listed.
+-- What the listing answers and leaves at each of its ends: the path table filled or too small (`filling`), too many events, too many paths, or all listed.
 -- Assumes nothing.
-use Prim.Native.Nat.{ℕ, zero, suc, _/_, _≤_, _<_}
+use Prim.Native.Nat.{ℕ, _+_, _/_, _≤_, _<_}
 use native.Mathlib.Omega.{arith}
-use mathlib.Core.Path.{_≡_, refl, sym, ap, ap₂, _∙_, subst}
+use mathlib.Core.Path.{_≡_, sym, ap, _∙_, subst}
 use mathlib.Core.Logic.{inl, inr}
 use mathlib.Core.Bool.{Bool, cond}
 use mathlib.Core.List.{List, flatMap}
 use lib.Dec.{leb}
 use lib.ListN.{length, replicate}
 use borrow.Author.Tests.{le-leb, lt-leb}
-use Rattle.lists.specs.Lists.{padded}
+use Rattle.lists.specs.Lists.{padded, cleared}
+use Rattle.lists.proofs.Tests.{lt-or-ge}
 use Rattle.poly.specs.Word.{halves}
 use Rattle.order.specs.Order.{Order}
-use Rattle.order.specs.Questions.{firstNo, shapeQuestions, generatorQuestions}
-use Rattle.order.proofs.FirstNo.{yes-of-firstNo}
+use Rattle.order.specs.Answer.{Answer, accepted, refused}
+use Rattle.order.specs.Model.Accepted.{Accepted}
 use Rattle.code.proofs.Steps.{Fit}
-use Rattle.code.proofs.Calls.{fit-of-range}
+use Rattle.code.proofs.Calls.{fit-of-code}
 use Rattle.events.specs.declared.Event.{Event}
-use Rattle.events.specs.declared.Collected.{Collected}
-use Rattle.events.specs.declared.Collected.the-variants as C
 use Rattle.events.specs.Events.{events, noEvent, eventTable}
-use Rattle.events.specs.Calls as E
-use Rattle.events.specs.Calls.{orderOf, collectQuestions, collectedAs, collectCall, listedOr13, unlessRefused}
-use Rattle.events.proofs.Asked.{accepted}
-use Rattle.bounds.proofs.Placed.{lt-or-ge}
+use Rattle.collection.specs.declared.Collected.{Collected}
+use Rattle.collection.specs.declared.Collected.the-variants as C
+use Rattle.collection.specs.Calls.{EventTables, eventTables, collectedAs, collected}
 use Rattle.paths.specs.Paths.{paths, plainCounts, pathRoom, pathTable}
-use Rattle.listing.specs.Calls.{Answer, listed, refused, Tables, listQuestions, cleared, allCleared, filled, counted, asked, listCall}
-use Rattle.listing.specs.Steps.{refusalOf, eventsOf}
-use Rattle.listing.proofs.Weights.{all-words, all-counts, Held, Full}
+use Rattle.listing.specs.Calls.{unlessTooMany}
+use Rattle.listing.specs.Model.Steps.{refusalOf, eventsOf, Filling, filling}
+use Rattle.listing.proofs.Weights.{all-words, all-counts, Held}
 
--- what the questions let the listing assume of its order
+-- what an accepted order is to the laws of words and walks
 pub record Ordered (o : Order) : Type 0 where
   pub some : 0 < o .N
   pub longer : o .v ≤ o .N
@@ -38,148 +36,142 @@ pub record Ordered (o : Order) : Type 0 where
   pub light : o .d ≤ 64
   pub fit : Fit (o .v) (o .generators)
 
-pub ordered : (gs : List ℕ) (v N d size : ℕ) → firstNo (collectQuestions gs v N d size) ≡ 0 → Ordered (orderOf gs v N d)
-unfolding collectQuestions shapeQuestions generatorQuestions
-ordered gs v N d size e =
-    let acc = accepted gs v N d size e in
-    let yes = yes-of-firstNo (collectQuestions gs v N d size) (tt, (tt, (tt, (tt, (tt, (tt, (tt, tt))))))) e in
-    let one = acc .shape .some-memory in
-    let long = acc .shape .long-enough in
-    record { some = omega arith; longer = long; few = acc .shape .at-most-128; memory = acc .shape .small-memory; light = acc .low-threshold; fit = fit-of-range v gs (yes .1 .1 .1 .1 .0) }
+pub ordered : (o : Order) → Accepted o → Ordered o
+ordered o acc =
+    let one = acc .code .some-memory in
+    let long = acc .code .long-enough in
+    record {
+      some = omega arith;
+      longer = long;
+      few = acc .code .at-most-128;
+      memory = acc .code .small-memory;
+      light = acc .threshold .at-most-64;
+      fit = fit-of-code o (acc .code);
+    }
 
-module _ (gs : List ℕ) (v N d : ℕ) (es : List Event) (ps cs ws : List ℕ) where
-  abbrev o : Order
-  o = orderOf gs v N d
+-- ---- the path table filled
 
-  abbrev t : Tables
-  t = (es, (ps, (cs, ws)))
+module _ (o : Order) (ps cs ws : List ℕ) where
+  abbrev filled : Filling
+  filled = (length (paths o), (pathTable (length ps) o, (padded (length cs) 0 (plainCounts o), cleared 0 ws)))
 
-  abbrev why : ℕ
-  why = firstNo (listQuestions gs v N d (length cs) (length ws))
+  abbrev emptied : Filling
+  emptied = (pathRoom (length ps) + 1, (cleared 0 ps, (cleared 0 cs, cleared 0 ws)))
 
-  pub answer-refused : (why ≡ 0 → ⊥) → _≡_ {A = Answer × Tables} (refused why, t) (listCall gs v N d t)
-  unfolding listCall asked
-  answer-refused n = by why n
-    where
-      by : (k : ℕ) → (k ≡ 0 → ⊥) → _≡_ {A = Answer × Tables} (refused k, t) (asked k o t)
-      by zero m = absurd (m refl)
-      by (suc k) m = refl
+  filling-fits : length (paths o) ≤ pathRoom (length ps) → filling o ps cs ws ≡ filled
+  unfolding filling
+  filling-fits h = ap (λ (b : Bool). cond b filled emptied) (le-leb (length (paths o)) (pathRoom (length ps)) h)
 
-  module _ (yes : why ≡ 0) where
-    accepted-is : counted o t ≡ listCall gs v N d t
-    unfolding listCall asked
-    accepted-is = ap (λ (k : ℕ). asked k o t) (sym yes)
+  filling-past : pathRoom (length ps) < length (paths o) → filling o ps cs ws ≡ emptied
+  unfolding filling
+  filling-past h = ap (λ (b : Bool). cond b filled emptied) (lt-leb (length (paths o)) (pathRoom (length ps)) h)
 
-    -- where the events fit, by how many paths there are
-    abbrev byPaths : Answer × Tables
-    byPaths = cond (leb (length (paths o)) (pathRoom (length ps))) (listed (length (events o)) (length (paths o)), filled o t) (refused 14, allCleared t)
+  -- once there is no weight left
+  pub ends-past : (at : ℕ) → at ≡ length ps / 2 + 1 → length ps / 2 < length (paths o) → _≡_ {A = Filling} (at, (replicate (length ps) 0, (replicate (length cs) 0, replicate (length ws) 0))) (filling o ps cs ws)
+  unfolding pathRoom cleared
+  ends-past at e h = ap (λ (x : ℕ). (x, (replicate (length ps) 0, (replicate (length cs) 0, replicate (length ws) 0)))) e ∙ sym (filling-past h)
 
-    pub answer-13 : length es < length (events o) → _≡_ {A = Answer × Tables} (refused 13, (replicate (length es) noEvent, (replicate (length ps) 0, (replicate (length cs) 0, replicate (length ws) 0)))) (listCall gs v N d t)
-    unfolding counted allCleared cleared
-    answer-13 h = sym (ap (λ (b : Bool). cond b byPaths (refused 13, allCleared t)) (lt-leb (length (events o)) (length es) h)) ∙ accepted-is
+  pub ends-filled : (ok : Ordered o) (enough : o .d ≤ length cs) (at : ℕ) (ps′ cs′ : List ℕ) → Held o (ok .some) (ok .longer) (ok .few) (ok .fit) (length ps) (length cs) enough (o .d) at ps′ cs′
+      → _≡_ {A = Filling} (at, (ps′, (cs′, replicate (length ws) 0))) (filling o ps cs ws)
+  unfolding pathTable pathRoom cleared
+  ends-filled ok enough at ps′ cs′ h =
+      let all = all-words o (ok .some) (ok .longer) (ok .few) (ok .fit) in
+      let place : at ≡ length (paths o) = h .place ∙ ap length all in
+      let table : ps′ ≡ padded (length ps) 0 (flatMap halves (paths o)) = h .paths-are ∙ ap (λ (l : List ℕ). padded (length ps) 0 (flatMap halves l)) all in
+      let counts : cs′ ≡ padded (length cs) 0 (plainCounts o) = h .counts-are ∙ ap (padded (length cs) 0) (all-counts o (ok .some) (ok .longer) (ok .few) (ok .fit)) in
+      let room : length (paths o) ≤ length ps / 2 = subst (λ (l : List ℕ). length l ≤ length ps / 2) all (h .fits) in
+      (λ i. (place i, (table i, (counts i, replicate (length ws) 0)))) ∙ sym (filling-fits room)
 
-    module _ (fits : length (events o) ≤ length es) where
-      fitting : (x : Answer × Tables) → x ≡ byPaths → x ≡ listCall gs v N d t
-      unfolding counted
-      fitting x e = e ∙ sym (ap (λ (b : Bool). cond b byPaths (refused 13, allCleared t)) (le-leb (length (events o)) (length es) fits)) ∙ accepted-is
+  -- what is known of the number and the lists by where the number lies
+  module _ (at : ℕ) (ps′ cs′ ws′ : List ℕ) (told : _≡_ {A = Filling} (at, (ps′, (cs′, ws′))) (filling o ps cs ws)) where
+    pub number-past : length ps / 2 < at → (pathRoom (length ps) < length (paths o)) × (_≡_ {A = List ℕ × (List ℕ × List ℕ)} (ps′, (cs′, ws′)) (cleared 0 ps, (cleared 0 cs, cleared 0 ws)))
+    unfolding pathRoom
+    number-past h = elim (lt-or-ge (length ps / 2) (length (paths o))) [
+      | inl more ↦ (more, ap (λ (x : Filling). x .1) (told ∙ filling-past more))
+      | inr fits ↦ let e = ap (λ (x : Filling). x .0) (told ∙ filling-fits fits) in absurd (omega arith)
+    ]
 
-      pub answer-14 : length ps / 2 < length (paths o) → _≡_ {A = Answer × Tables} (refused 14, (replicate (length es) noEvent, (replicate (length ps) 0, (replicate (length cs) 0, replicate (length ws) 0)))) (listCall gs v N d t)
-      unfolding allCleared cleared pathRoom
-      answer-14 h = fitting _ (sym (ap (λ (b : Bool). cond b (listed (length (events o)) (length (paths o)), filled o t) (refused 14, allCleared t)) (lt-leb (length (paths o)) (length ps / 2) h)))
-
-      pub answer-listed : length (paths o) ≤ length ps / 2
-          → _≡_ {A = Answer × Tables} (listed (length (events o)) (length (paths o)), (eventTable (length es) o, (pathTable (length ps) o, (padded (length cs) 0 (plainCounts o), replicate (length ws) 0)))) (listCall gs v N d t)
-      unfolding filled cleared pathRoom
-      answer-listed h = fitting _ (sym (ap (λ (b : Bool). cond b (listed (length (events o)) (length (paths o)), filled o t) (refused 14, allCleared t)) (le-leb (length (paths o)) (length ps / 2) h)))
+    pub number-inside : at ≤ length ps / 2 → (length (paths o) ≤ pathRoom (length ps)) × (_≡_ {A = Filling} (at, (ps′, (cs′, ws′))) filled)
+    unfolding pathRoom
+    number-inside h = elim (lt-or-ge (length ps / 2) (length (paths o))) [
+      | inl more ↦ let e = ap (λ (x : Filling). x .0) (told ∙ filling-past more) in absurd (omega arith)
+      | inr fits ↦ (fits, told ∙ filling-fits fits)
+    ]
 
 -- ---- what the collection answered
 
-abbrev refusalIn : E.Answer → ℕ
-refusalIn (E.collected n) = 0
-refusalIn (E.refused k) = k
+refusal-told : (c : Collected) (a : Answer ℕ) → collectedAs c ≡ a → (n : ℕ) → a ≡ accepted n → (refusalOf c ≡ 0) × (eventsOf c ≡ n)
+refusal-told (C.Events m) a e n f = (cc, cc)
+refusal-told (C.Refused k) a e n f = (cc, cc)
 
-abbrev countIn : E.Answer → ℕ
-countIn (E.collected n) = n
-countIn (E.refused k) = 0
-
-refusal-told : (c : Collected) → refusalIn (collectedAs c) ≡ refusalOf c
-refusal-told (C.Events n) = refl
-refusal-told (C.Refused k) = refl
-
-count-told : (c : Collected) → countIn (collectedAs c) ≡ eventsOf c
-count-told (C.Events n) = refl
-count-told (C.Refused k) = refl
+refused-told : (c : Collected) (k : ℕ) → collectedAs c ≡ refused k → refusalOf c ≡ k
+refused-told (C.Events m) k e = cc
+refused-told (C.Refused k′) k e = cc
 
 -- the events were listed, or there are too many
 pub record Got (o : Order) (c : Collected) (es es′ : List Event) (ws ws′ : List ℕ) : Type 0 where
   pub fits : length (events o) ≤ length es
   pub number : eventsOf c ≡ length (events o)
   pub table : es′ ≡ eventTable (length es) o
-  pub zeros : ws′ ≡ replicate (length ws) 0
+  pub zeros : ws′ ≡ cleared 0 ws
 
 pub record Got13 (o : Order) (c : Collected) (es es′ : List Event) (ws ws′ : List ℕ) : Type 0 where
   pub too-many : length es < length (events o)
   pub number : refusalOf c ≡ 13
-  pub table : es′ ≡ replicate (length es) noEvent
-  pub zeros : ws′ ≡ replicate (length ws) 0
+  pub table : es′ ≡ cleared noEvent es
+  pub zeros : ws′ ≡ cleared 0 ws
 
-module _ (gs : List ℕ) (v N d : ℕ) (es es′ : List Event) (ws ws′ : List ℕ) (c : Collected) (yes : firstNo (collectQuestions gs v N d (length ws)) ≡ 0) (told : (collectedAs c, (es′, ws′)) ≡ collectCall gs v N d es ws) where
-  abbrev order : Order
-  order = orderOf gs v N d
+module _ (o : Order) (c : Collected) (es es′ : List Event) (ws ws′ : List ℕ) (told : (collectedAs c, eventTables es′ ws′) ≡ collected o (eventTables es ws)) where
+  abbrev Outcome : Type 0
+  Outcome = Answer ℕ × EventTables
 
-  decided : (collectedAs c, (es′, ws′)) ≡ listedOr13 order es ws
-  unfolding collectCall unlessRefused
-  decided = told ∙ ap (λ (k : ℕ). unlessRefused k order es ws) yes
+  abbrev all : Outcome
+  all = (accepted (length (events o)), eventTables (eventTable (length es) o) (cleared 0 ws))
 
-  listed-all : length (events order) ≤ length es → _≡_ {A = E.Outcome} (collectedAs c, (es′, ws′)) (E.collected (length (events order)), (eventTable (length es) order, replicate (length ws) 0))
-  unfolding listedOr13
-  listed-all h = decided ∙ ap (λ (b : Bool). cond {A = E.Outcome} b (E.collected (length (events order)), (eventTable (length es) order, replicate (length ws) 0)) (E.refused 13, (replicate (length es) noEvent, replicate (length ws) 0))) (le-leb (length (events order)) (length es) h)
+  abbrev none : Outcome
+  none = (refused 13, eventTables (cleared noEvent es) (cleared 0 ws))
 
-  too-long : length es < length (events order) → _≡_ {A = E.Outcome} (collectedAs c, (es′, ws′)) (E.refused 13, (replicate (length es) noEvent, replicate (length ws) 0))
-  unfolding listedOr13
-  too-long h = decided ∙ ap (λ (b : Bool). cond {A = E.Outcome} b (E.collected (length (events order)), (eventTable (length es) order, replicate (length ws) 0)) (E.refused 13, (replicate (length es) noEvent, replicate (length ws) 0))) (lt-leb (length (events order)) (length es) h)
+  listed-all : length (events o) ≤ length es → _≡_ {A = Outcome} (collectedAs c, eventTables es′ ws′) all
+  unfolding collected
+  listed-all h = told ∙ ap (λ (b : Bool). cond {A = Outcome} b all none) (le-leb (length (events o)) (length es) h)
 
-  pub got : refusalOf c ≡ 0 → Got order c es es′ ws ws′
-  got none = elim (lt-or-ge (length es) (length (events order))) [
-    | inl more ↦ let k : refusalOf c ≡ 13 = sym (refusal-told c) ∙ ap (λ (y : E.Outcome). refusalIn (y .0)) (too-long more) in absurd (omega arith)
+  too-long : length es < length (events o) → _≡_ {A = Outcome} (collectedAs c, eventTables es′ ws′) none
+  unfolding collected
+  too-long h = told ∙ ap (λ (b : Bool). cond {A = Outcome} b all none) (lt-leb (length (events o)) (length es) h)
+
+  pub got : refusalOf c ≡ 0 → Got o c es es′ ws ws′
+  got zero = elim (lt-or-ge (length es) (length (events o))) [
+    | inl more ↦ let k = refused-told c 13 (ap (λ (y : Outcome). y .0) (too-long more)) in absurd (omega arith)
     | inr fits ↦
         let e = listed-all fits in
-        record { fits = fits; number = sym (count-told c) ∙ ap (λ (y : E.Outcome). countIn (y .0)) e; table = ap (λ (y : E.Outcome). y .1 .0) e; zeros = ap (λ (y : E.Outcome). y .1 .1) e }
+        record { fits = fits; number = refusal-told c _ (ap (λ (y : Outcome). y .0) e) (length (events o)) (λ _. accepted (length (events o))) .1; table = ap (λ (y : Outcome). y .1 .events) e; zeros = ap (λ (y : Outcome). y .1 .work) e }
   ]
 
-  pub got13 : (refusalOf c ≡ 0 → ⊥) → Got13 order c es es′ ws ws′
-  got13 some-no = elim (lt-or-ge (length es) (length (events order))) [
+  pub got13 : (refusalOf c ≡ 0 → ⊥) → Got13 o c es es′ ws ws′
+  got13 some-no = elim (lt-or-ge (length es) (length (events o))) [
     | inl more ↦
         let e = too-long more in
-        record { too-many = more; number = sym (refusal-told c) ∙ ap (λ (y : E.Outcome). refusalIn (y .0)) e; table = ap (λ (y : E.Outcome). y .1 .0) e; zeros = ap (λ (y : E.Outcome). y .1 .1) e }
-    | inr fits ↦ absurd (some-no (sym (refusal-told c) ∙ ap (λ (y : E.Outcome). refusalIn (y .0)) (listed-all fits)))
+        record { too-many = more; number = refused-told c 13 (ap (λ (y : Outcome). y .0) e); table = ap (λ (y : Outcome). y .1 .events) e; zeros = ap (λ (y : Outcome). y .1 .work) e }
+    | inr fits ↦ absurd (some-no (refusal-told c _ (ap (λ (y : Outcome). y .0) (listed-all fits)) (length (events o)) (λ _. accepted (length (events o))) .0))
   ]
 
--- ---- the end
+-- ---- the listing
 
-module _ (gs : List ℕ) (v N d : ℕ) (es : List Event) (ps cs ws : List ℕ) (ok : Ordered (orderOf gs v N d)) (yes : firstNo (listQuestions gs v N d (length cs) (length ws)) ≡ 0) (enough : d ≤ length cs) (fits : length (events (orderOf gs v N d)) ≤ length es) where
-  abbrev of : Order
-  of = orderOf gs v N d
+module _ {A L : Type 0} (o : Order) (entries numbers : ℕ) (zeros : L) (outcome : Answer A × L) where
+  abbrev byPaths : Answer A × L
+  byPaths = cond (leb (length (paths o)) (pathRoom numbers)) outcome (refused 14, zeros)
 
-  pub ends-listed : (at : ℕ) (ps′ cs′ : List ℕ) → Held of (ok .some) (ok .longer) (ok .few) (ok .fit) (length ps) (length cs) enough d at ps′ cs′
-      → _≡_ {A = Answer × Tables} (listed (length (events of)) at, (eventTable (length es) of, (ps′, (cs′, replicate (length ws) 0)))) (listCall gs v N d (es, (ps, (cs, ws))))
-  unfolding pathTable
-  ends-listed at ps′ cs′ h =
-      let all = all-words of (ok .some) (ok .longer) (ok .few) (ok .fit) in
-      let place : at ≡ length (paths of) = h .place ∙ ap length all in
-      let table : ps′ ≡ pathTable (length ps) of = h .paths-are ∙ ap (λ (l : List ℕ). padded (length ps) 0 (flatMap halves l)) all in
-      let counts : cs′ ≡ padded (length cs) 0 (plainCounts of) = h .counts-are ∙ ap (padded (length cs) 0) (all-counts of (ok .some) (ok .longer) (ok .few) (ok .fit)) in
-      let room : length (paths of) ≤ length ps / 2 = subst (λ (l : List ℕ). length l ≤ length ps / 2) all (h .fits) in
-      same at (length (paths of)) ps′ (pathTable (length ps) of) cs′ (padded (length cs) 0 (plainCounts of)) place table counts ∙ answer-listed gs v N d es ps cs ws yes fits room
-    where
-      same : (a a′ : ℕ) (p p′ c c′ : List ℕ) → a ≡ a′ → p ≡ p′ → c ≡ c′ → _≡_ {A = Answer × Tables} (listed (length (events of)) a, (eventTable (length es) of, (p, (c, replicate (length ws) 0)))) (listed (length (events of)) a′, (eventTable (length es) of, (p′, (c′, replicate (length ws) 0))))
-      same a a′ p p′ c c′ e f g =
-          ap (λ (x : ℕ). (listed (length (events of)) x, (eventTable (length es) of, (p, (c, replicate (length ws) 0))))) e
-          ∙ ap₂ (λ (x y : List ℕ). (listed (length (events of)) a′, (eventTable (length es) of, (x, (y, replicate (length ws) 0))))) f g
+  pub too-many-events : entries < length (events o) → _≡_ {A = Answer A × L} (refused 13, zeros) (unlessTooMany o entries numbers zeros outcome)
+  unfolding unlessTooMany
+  too-many-events h = sym (ap (λ (b : Bool). cond b byPaths (refused 13, zeros)) (lt-leb (length (events o)) entries h))
 
-  -- a place within the room is the end of all words, and one past it is not
-  pub not-full : (w at : ℕ) (ps′ cs′ : List ℕ) → Full of (ok .some) (ok .longer) (ok .few) (ok .fit) (length ps) (length cs) enough w at ps′ cs′ → at ≤ length ps / 2 → ⊥
-  not-full w at ps′ cs′ f h = let p = f .past in omega arith
+  module _ (fits : length (events o) ≤ entries) where
+    events-fit : byPaths ≡ unlessTooMany o entries numbers zeros outcome
+    unfolding unlessTooMany
+    events-fit = sym (ap (λ (b : Bool). cond b byPaths (refused 13, zeros)) (le-leb (length (events o)) entries fits))
 
-  pub not-held : (w at : ℕ) (ps′ cs′ : List ℕ) → Held of (ok .some) (ok .longer) (ok .few) (ok .fit) (length ps) (length cs) enough w at ps′ cs′ → length ps / 2 < at → ⊥
-  not-held w at ps′ cs′ h g = let p = h .place in let f = h .fits in omega arith
+    pub too-many-paths : pathRoom numbers < length (paths o) → _≡_ {A = Answer A × L} (refused 14, zeros) (unlessTooMany o entries numbers zeros outcome)
+    too-many-paths h = sym (ap (λ (b : Bool). cond b outcome (refused 14, zeros)) (lt-leb (length (paths o)) (pathRoom numbers) h)) ∙ events-fit
+
+    pub all-fit : length (paths o) ≤ pathRoom numbers → outcome ≡ unlessTooMany o entries numbers zeros outcome
+    all-fit h = sym (ap (λ (b : Bool). cond b outcome (refused 14, zeros)) (le-leb (length (paths o)) (pathRoom numbers) h)) ∙ events-fit

@@ -1,5 +1,6 @@
-pub mod Asked
 pub mod Settled
 pub mod Weights
 pub mod Answers
 pub mod Standing
+pub mod Stages
+pub mod Plains

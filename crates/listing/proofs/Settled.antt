@@ -8,8 +8,8 @@ use mathlib.Core.List.{List}
 use lib.Dec.{leb}
 use lib.ListN.{length, set}
 use borrow.Author.Tests.{le-leb, lt-leb}
-use Rattle.sort.specs.Sort.{sortedPart}
-use Rattle.listing.specs.Steps.{settledPaths, settledCounts, laterWeight}
+use Rattle.sort.specs.Model.Sort.{sortedPart}
+use Rattle.listing.specs.Model.Steps.{settledPaths, settledCounts, laterWeight}
 
 module _ (w d next room : ℕ) where
   pub later-none : room < next → d ≡ laterWeight w d next room

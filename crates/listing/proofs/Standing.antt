@@ -1,4 +1,4 @@
--- Where the loop of `list` stands: the work area still knows where each state's events begin, and the table and the counts are those of the weights so
+-- Where the loop of `fill` stands: the work area still knows where each state's events begin, and the table and the counts are those of the weights so
 -- far, or the table is too small (`Standing`). It begins so, a weight keeps it, and its end is the answer.
 -- Assumes nothing.
 use Prim.Native.Nat.{ℕ, _+_, _-_, _/_, _^_, _≤_, _<_}
@@ -11,30 +11,31 @@ use Rattle.order.specs.Order.{Order}
 use Rattle.events.specs.declared.Event.{Event}
 use Rattle.events.specs.Events.{events, entry, noEvent, eventTable}
 use Rattle.paths.specs.Paths.{paths, pathRoom}
-use Rattle.paths.specs.Chains.{chainWords}
-use Rattle.bounds.specs.Tables.{surveyed, indexed}
-use Rattle.rotations.specs.Put.{puts}
-use Rattle.chains.specs.Chaining.{afterStates, foundFrom, weightListed, Noted, Indexed}
+use Rattle.paths.specs.Model.Joining.{chainWords}
+use Rattle.bounds.specs.Model.Places.{areaSize}
+use Rattle.bounds.specs.Model.Tables.{surveyed, indexed, Fits}
+use Rattle.rotations.specs.Model.Put.{puts}
+use Rattle.chains.specs.Model.Chaining.{afterStates, foundFrom, weightListed, Noted, ToListWeight}
 use Rattle.chains.proofs.Listed.{noErrorEvent, Delimits, delimits-after, foundFrom-is-chainWords}
 use Rattle.chains.proofs.Indexing.{noteworthy, delimits-order, entries-listed}
-use Rattle.listing.specs.Steps.{settledPaths, settledCounts, laterWeight, Settles}
+use Rattle.listing.specs.Model.Steps.{settledPaths, settledCounts, laterWeight, Settles}
 use Rattle.listing.proofs.Settled.{later-bounds}
 use Rattle.listing.proofs.Weights.{Held, Full, held-first, held-sizes, settles, weight-done}
 use Rattle.listing.proofs.Answers.{Ordered}
 
-module _ (o : Order) (ok : Ordered o) (size : ℕ) (table : List Event) (is-table : table ≡ eventTable size o) (long : length table ≡ size) (fits : length (events o) ≤ size) (np nc nw : ℕ) (enough : o .d ≤ nc) (wide : 8192 ≤ nw) where
+module _ (o : Order) (ok : Ordered o) (size : ℕ) (table : List Event) (is-table : table ≡ eventTable size o) (long : length table ≡ size) (fits : length (events o) ≤ size) (np nc nw : ℕ) (enough : o .d ≤ nc) (wide : areaSize ≤ nw) where
   entries : (k : ℕ) → k < length (events o) → getD table k noEvent ≡ entry (getD (events o) k noErrorEvent)
   entries k h = ap (λ (t : List Event). getD t k noEvent) is-table ∙ entries-listed o size k h
 
   in-table : length (events o) ≤ length table
   in-table = omega arith
 
-  at-all : (k : ℕ) → k < length (events o) → (getD table k noEvent .state < 256) × (getD table k noEvent .length ≤ 128)
+  at-all : (k : ℕ) → k < length (events o) → Fits (getD table k noEvent)
   at-all k h = noteworthy o (ok .some) (ok .few) (ok .memory) (ok .light) table nw wide in-table entries k (omega arith) (omega arith)
 
   -- the events can be noted
   pub noted-all : (n : ℕ) → n ≡ length (events o) → Noted table 0 n
-  noted-all n e = record { inside = omega (arith, in-table); states = λ k h g. at-all k (omega arith) .0; lengths = λ k h g. at-all k (omega arith) .1 }
+  noted-all n e = record { inside = omega (arith, in-table); fits = λ k h g. at-all k (omega arith) }
 
   pub record Standing (w at : ℕ) (ps cs ws : List ℕ) : Type 0 where
     pub low : w ≤ o .d
@@ -71,13 +72,13 @@ module _ (o : Order) (ok : Ordered o) (size : ℕ) (table : List Event) (is-tabl
     not-full = elim (s .reached) [ inl h ↦ h | inr f ↦ absurd (let l = f .last in omega arith) ]
 
     -- what `list_weight` asks
-    pub standing-requires : (states : ℕ) → states ≡ 2 ^ o .v → Indexed table ws × ((states ≤ 256) × ((w < 64) × (at ≤ pathRoom (length ps) + 1)))
+    pub standing-requires : (states : ℕ) → states ≡ 2 ^ o .v → ToListWeight table ws ps at states w
     unfolding pathRoom
     standing-requires states e =
         let d = s .delimits .few-states in
         let t = ok .light in
         let n = standing-near w at ps cs ws s in
-        (s .delimits .indexed, (omega arith, (omega arith, subst (λ (x : ℕ). at ≤ x / 2 + 1) (sym (standing-sizes w at ps cs ws s .0)) n)))
+        record { indexed = s .delimits .indexed; few-states = omega arith; light = omega arith; near = subst (λ (x : ℕ). at ≤ x / 2 + 1) (sym (standing-sizes w at ps cs ws s .0)) n }
 
     module _ (states : ℕ) (all : states ≡ 2 ^ o .v) (ws′ ps′ : List ℕ) (next : ℕ) (left : _≡_ {A = List ℕ × (List ℕ × ℕ)} (ws′, (ps′, next)) (weightListed table w states ws (ps, at))) where
       words : _≡_ {A = List ℕ × ℕ} (ps′, next) (puts (chainWords o w) (ps, at))
@@ -113,5 +114,5 @@ module _ (o : Order) (ok : Ordered o) (size : ℕ) (table : List Event) (is-tabl
           | inr f ↦ absurd (let p = f .past in omega arith)
         ]
 
-    pub ends-full : np / 2 < at → np / 2 < length (paths o)
-    ends-full past = elim (s .reached) [ inl h ↦ absurd (let p = h .place in let f = h .fits in omega arith) | inr f ↦ f .too-many ]
+    pub ends-full : np / 2 < at → (at ≡ np / 2 + 1) × (np / 2 < length (paths o))
+    ends-full past = elim (s .reached) [ inl h ↦ absurd (let p = h .place in let f = h .fits in omega arith) | inr f ↦ (f .past, f .too-many) ]

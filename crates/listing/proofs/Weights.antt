@@ -6,7 +6,7 @@ use native.Mathlib.Nat.{add-zero, zero-add}
 use native.Mathlib.Omega.{arith}
 use mathlib.Core.Path.{_≡_, refl, sym, ap, ap₂, _∙_, subst}
 use mathlib.Core.Logic.{_⊎_, inl, inr}
-use mathlib.Core.List.{List, [], _∷_, _++_, map, flatMap, append-assoc}
+use mathlib.Core.List.{List, [], _∷_, _++_, map, flatMap, map-append, append-assoc}
 use lib.ListN.{length, set, replicate, length-append, length-map}
 use Rattle.lists.specs.Lists.{upFrom, padded}
 use Rattle.lists.proofs.Lengths.{upFrom-last, length-upFrom, length-padded}
@@ -16,17 +16,17 @@ use Rattle.poly.proofs.Halves.{length-halves}
 use Rattle.code.proofs.Steps.{Fit}
 use Rattle.order.specs.Order.{Order}
 use Rattle.paths.specs.Paths.{wordsOfWeight, weights, paths, plainCounts, pathRoom}
-use Rattle.paths.specs.Chains.{chainWords}
+use Rattle.paths.specs.Model.Joining.{chainWords}
 use Rattle.paths.proofs.Listed.{plain-count-is-part}
 use Rattle.paths.proofs.Words.{chainWords-distinct, of-chainWords, sorted-chainWords, length-chainWords}
-use Rattle.rotations.specs.Put.{puts}
+use Rattle.rotations.specs.Model.Put.{puts}
 use Rattle.rotations.proofs.Puts.{length-puts, puts-listed, puts-too-many}
 use Rattle.bounds.proofs.Placed.{lt-or-ge}
-use Rattle.sort.specs.Sort.{sorted, sortedPart}
-use Rattle.sort.specs.Steps.{Narrow}
+use Rattle.sort.specs.Model.Sort.{sorted, sortedPart}
+use Rattle.sort.specs.Model.Steps.{Narrow}
 use Rattle.sort.proofs.Sorting.{sorted-within, within-sorted, sorted-increasing}
 use Rattle.sort.proofs.Parts.{narrow-appended, sortedPart-appended}
-use Rattle.listing.specs.Steps.{settledPaths, settledCounts, laterWeight, Settles}
+use Rattle.listing.specs.Model.Steps.{settledPaths, settledCounts, laterWeight, Settles}
 use Rattle.listing.proofs.Settled.{later-none, later-next, settled-full, settled-sorted}
 
 -- one number more after those of a list that is made up by zeros
@@ -69,7 +69,7 @@ module _ (o : Order) (some : 0 < o .N) (longer : o .v ≤ o .N) (few : o .N ≤ 
   next-counts : (w : ℕ) → countsTo (w + 1) ≡ countsTo w ++ (length (wordsOfWeight o w) ∷ [])
   unfolding countsTo
   next-counts w =
-      ap (λ (x : ℕ). map part (upFrom 0 x)) (suc-of w) ∙ ap (map part) (upFrom-last 0 w) ∙ map-append (upFrom 0 w) ((0 + w) ∷ [])
+      ap (λ (x : ℕ). map part (upFrom 0 x)) (suc-of w) ∙ ap (map part) (upFrom-last 0 w) ∙ map-append part (upFrom 0 w) ((0 + w) ∷ [])
       ∙ ap (λ (x : ℕ). map part (upFrom 0 w) ++ (part x ∷ [])) (zero-add w)
     where
       part : ℕ → ℕ
@@ -77,10 +77,6 @@ module _ (o : Order) (some : 0 < o .N) (longer : o .v ≤ o .N) (few : o .N ≤ 
 
       suc-of : (a : ℕ) → a + 1 ≡ suc a
       suc-of a = omega arith
-
-      map-append : (l k : List ℕ) → map part (l ++ k) ≡ map part l ++ map part k
-      map-append [] k = refl
-      map-append (x ∷ l) k = ap (λ (r : List ℕ). part x ∷ r) (map-append l k)
 
   length-countsTo : (w : ℕ) → length (countsTo w) ≡ w
   unfolding countsTo

@@ -1,21 +1,27 @@
 // The paths of a code below a threshold, by weight and number, listed in a lent table: the events are collected, chained weight by weight, and each
 // weight's words are sorted.
 ghost use mathlib.Core.Path.{_≡_};
-ghost use Prim.Native.Nat.{_+_, _-_, _*_, _/_, _^_, _≤_, _<_};
-ghost use lib.ListN.{length, set};
+ghost use Prim.Native.Nat.{_+_, _-_, _/_, _^_, _≤_, _<_};
+ghost use lib.ListN.{length};
 ghost use Rattle.order.specs.Questions.{firstNo};
-ghost use Rattle.sort.specs.Steps.{Narrow};
-ghost use Rattle.listing.specs.Calls.{listedAs, listQuestions, listCall};
-ghost use Rattle.listing.specs.Steps.{refusalOf, eventsOf, settledPaths, settledCounts, laterWeight, Settles};
+ghost use Rattle.order.specs.Answers.{orderIn};
+ghost use Rattle.order.specs.Model.Accepted.{AcceptedCode};
+ghost use Rattle.bounds.specs.Model.Places.{areaSize};
+ghost use Rattle.bounds.specs.Model.Tables.{indexed};
+ghost use Rattle.listing.specs.Calls.{listedAs, listQuestions, pathTables, listed, listCall};
+ghost use Rattle.listing.specs.Model.Steps.{refusalOf, eventsOf, settledPaths, settledCounts, laterWeight, Settles, ToFill, filling, ToList};
 use bounds::index_states;
 use chains::list_weight;
 use chains::survey;
-use events::Collected;
+use collection::Collected;
+use collection::gather;
 use events::Event;
-use events::ask;
 use events::clear_events;
-use events::collect;
-use events::tables::clear_words;
+use lists::clear_words;
+use order::questions::Takes;
+use order::questions::WORK_SIZE;
+use order::record::OrderRecord;
+use order::record::ask_order;
 use poly::word::power;
 use sort::sort;
 
@@ -28,14 +34,17 @@ pub enum Listed {
 // ---- what a call asks and answers
 
 // Questions 3, 4, 5, 7, 8, 9 and 10: the number of the first that says no, or 0.
-fn ask_list(generators: &[u64], v: u64, bits: u64, d: u64, counts: usize, size: usize) -> u64
-    ensures { λ r. ⌜ r ≡ firstNo (listQuestions (now (generators .entry)) v bits d counts size) ⌝ }
+fn ask_list(order: OrderRecord, plain: usize, size: usize) -> u64
+    ensures { λ r. ⌜ r ≡ firstNo (listQuestions (orderIn order) plain size) ⌝ }
 {
-    let why = ask(generators, v, bits, d, size);
+    let why = ask_order(Takes::Threshold, order);
     if why != 0 {
         return why;
     }
-    if (counts as u64) < d {
+    if (plain as u64) < order.d {
+        return 10;
+    }
+    if size < WORK_SIZE {
         return 10;
     }
     0
@@ -74,25 +83,39 @@ fn answer(events: usize, paths: usize) -> Listed
 }
 
 // 2^v.
-fn state_count(v: u64) -> usize
-    requires { ⌜ v ≤ 8 ⌝ }
-    ensures { λ r. ⌜ r ≡ 2 ^ v ⌝ }
+fn state_count(order: OrderRecord) -> usize
+    requires { ⌜ AcceptedCode (orderIn order) ⌝ }
+    ensures { λ r. ⌜ r ≡ 2 ^ order .v ⌝ }
 {
-    power(v) as usize
+    power(order.v) as usize
+}
+
+fn threshold_of(order: OrderRecord) -> u64
+    ensures { λ r. ⌜ r ≡ order .d ⌝ }
+{
+    order.d
+}
+
+// Where each state's events begin, once they are noted.
+fn index(order: OrderRecord, work: &mut [u64])
+    requires { ⌜ areaSize ≤ length (now work) ⌝ }
+    ensures { λ _. ⌜ now (work .exit) ≡ indexed (order .bits) (now (work .entry)) ⌝ }
+{
+    index_states(work, order.bits);
 }
 
 // ---- weight by weight
 
 // The words that were appended from place `at` to before place `next` are sorted and counted, where the table took them all.
-fn settle(paths: &mut [u64], counts: &mut [u64], at: usize, next: usize, w: u64, bits: u64)
-    requires { ⌜ Settles (now paths) (now counts) at next w bits ⌝ }
-    ensures { λ _. ⌜ (now (paths .exit) ≡ settledPaths (now (paths .entry)) at next) × (now (counts .exit) ≡ settledCounts (length (now (paths .entry))) (now (counts .entry)) at next w) ⌝ }
+fn settle(order: OrderRecord, paths: &mut [u64], plain: &mut [u64], at: usize, next: usize, w: u64)
+    requires { ⌜ Settles (now paths) (now plain) at next w (order .bits) ⌝ }
+    ensures { λ _. ⌜ (now (paths .exit) ≡ settledPaths (now (paths .entry)) at next) × (now (plain .exit) ≡ settledCounts (length (now (paths .entry))) (now (plain .entry)) at next w) ⌝ }
 {
     if paths.len() / 2 < next {
         return;
     }
-    sort(paths, at, next, bits);
-    counts[w as usize] = (next - at) as u64;
+    sort(paths, at, next, order.bits);
+    plain[w as usize] = (next - at) as u64;
 }
 
 // The weight after w; d, where the table is known to be too small.
@@ -106,52 +129,86 @@ fn later_weight(w: u64, d: u64, next: usize, room: usize) -> u64
     w + 1
 }
 
-// The paths of weight below d, by weight and number, of the code of memory v that the generators give, on words of `bits` bits; the events that they
-// are joined of; and how many paths there are of each weight. Zeros stand after them, and the work area ends as zeros. Refused with 13 or 14, all
-// that is lent is zero; refused with an earlier number, nothing is changed.
-pub fn list(
-    generators: &[u64],
-    v: u64,
-    bits: u64,
-    d: u64,
-    events: &mut [Event],
+// The path table and the plain counts filled from a collected event table, weight by weight: how many paths there are, or one more than the table takes,
+// and then both are cleared. The work area ends as zeros.
+pub fn fill(
+    order: OrderRecord,
+    events: &[Event],
+    n: usize,
     paths: &mut [u64],
-    counts: &mut [u64],
+    plain: &mut [u64],
     work: &mut [u64],
-) -> Listed
-    ensures { λ r. ⌜ (listedAs r, (now (events .exit), (now (paths .exit), (now (counts .exit), now (work .exit))))) ≡ listCall (now (generators .entry)) v bits d (now (events .entry), (now (paths .entry), (now (counts .entry), now (work .entry)))) ⌝ }
+) -> usize
+    requires { ⌜ ToFill (orderIn order) (now events) n (now plain) (now work) ⌝ }
+    ensures { λ r. ⌜ (r, (now (paths .exit), (now (plain .exit), now (work .exit)))) ≡ filling (orderIn order) (now (paths .entry)) (now (plain .entry)) (now (work .entry)) ⌝ }
 {
-    let why = ask_list(generators, v, bits, d, counts.len(), work.len());
-    if why != 0 {
-        return refuse(why);
-    }
     clear_words(paths);
-    clear_words(counts);
-    let collected = collect(generators, v, bits, d, events, work);
-    let refusal = refusal_of(collected);
-    if refusal != 0 {
-        return refuse(refusal);
-    }
-    let n = events_of(collected);
+    clear_words(plain);
     survey(events, work, 0, n);
-    index_states(work, bits);
-    let states = state_count(v);
+    index(order, work);
+    let states = state_count(order);
+    let d = threshold_of(order);
     let room = paths.len() / 2;
     let mut at = 0;
     let mut w = 0;
     while w < d {
         let next = list_weight(events, work, paths, at, states, w);
-        settle(paths, counts, at, next, w, bits);
+        settle(order, paths, plain, at, next, w);
         at = next;
         let later = later_weight(w, d, next, room);
         w = later;
     }
     clear_words(work);
     if room < at {
-        clear_events(events);
         clear_words(paths);
-        clear_words(counts);
+        clear_words(plain);
+        return at;
+    }
+    at
+}
+
+// The listing for an accepted order: refused with 13 or 14, all that is lent is zero.
+pub fn list_accepted(
+    order: OrderRecord,
+    events: &mut [Event],
+    paths: &mut [u64],
+    plain: &mut [u64],
+    work: &mut [u64],
+) -> Listed
+    requires { ⌜ ToList (orderIn order) (now plain) (now work) ⌝ }
+    ensures { λ r. ⌜ (listedAs r, pathTables (now (events .exit)) (now (paths .exit)) (now (plain .exit)) (now (work .exit))) ≡ listed (orderIn order) (pathTables (now (events .entry)) (now (paths .entry)) (now (plain .entry)) (now (work .entry))) ⌝ }
+{
+    let collected = gather(order, events, work);
+    let refusal = refusal_of(collected);
+    if refusal != 0 {
+        clear_words(paths);
+        clear_words(plain);
+        return refuse(refusal);
+    }
+    let n = events_of(collected);
+    let at = fill(order, events, n, paths, plain, work);
+    if paths.len() / 2 < at {
+        clear_events(events);
         return refuse(14);
     }
     answer(n, at)
+}
+
+// The paths of weight below d, by weight and number, of the order's code on words of N bits; the events that they are joined of; and how many paths
+// there are of each weight. Zeros stand after them, and the work area ends as zeros. Refused with 13 or 14, all that is lent is zero; refused with an
+// earlier number, nothing is changed.
+pub fn list(
+    order: OrderRecord,
+    events: &mut [Event],
+    paths: &mut [u64],
+    plain: &mut [u64],
+    work: &mut [u64],
+) -> Listed
+    ensures { λ r. ⌜ (listedAs r, pathTables (now (events .exit)) (now (paths .exit)) (now (plain .exit)) (now (work .exit))) ≡ listCall (orderIn order) (pathTables (now (events .entry)) (now (paths .entry)) (now (plain .entry)) (now (work .entry))) ⌝ }
+{
+    let why = ask_list(order, plain.len(), work.len());
+    if why != 0 {
+        return refuse(why);
+    }
+    list_accepted(order, events, paths, plain, work)
 }

@@ -9,7 +9,7 @@ use mathlib.Core.List.{List, [], _∷_, _++_, map, flatMap}
 use lib.Dec.{T}
 use lib.ListN.{length, getD, replicate, List·getD-append, getD-replicate, length-append, length-map, length-replicate}
 use lib.Seq.{getD-append-add, ext-getD}
-use Rattle.lists.specs.Lists.{upFrom, filter, count, sum, padded}
+use Rattle.lists.specs.Lists.{upFrom, filter, sum, padded}
 
 -- the numbers of a list, added up
 unfoldable pub total : List ℕ → ℕ
@@ -63,10 +63,6 @@ module _ {A : Type 0} where
   unfolding filter
   length-filter-mono f g h [] = omega arith
   length-filter-mono f g h (x ∷ xs) = kept-mono (f x) (g x) (h x) x (filter f xs) (filter g xs) (length-filter-mono f g h xs)
-
-  pub count-is-length-filter : (f : A → Bool) (xs : List A) → count f xs ≡ length (filter f xs)
-  unfolding count
-  count-is-length-filter f xs = refl
 
   pub length-flatMap : {B : Type 0} (f : A → List B) (xs : List A) → length (flatMap f xs) ≡ total (map (λ x. length (f x)) xs)
   unfolding flatMap total

@@ -1,6 +1,7 @@
--- Stores one after another: a run of stores made longer, the images of a list stored one by one, and a cleared list with a run at its front.
+-- Stores one after another: a run of stores made longer, the images of a list stored one by one, a list filled from the front, and a cleared list with
+-- a run at its front.
 -- Assumes nothing.
-use mathlib.Core.Path.{_≡_, sym, ap, ap₂, _∙_, subst}
+use mathlib.Core.Path.{_≡_, refl, sym, ap, ap₂, _∙_, subst}
 use mathlib.Core.List.{List, [], _∷_, _++_, map, map-append, append-nil}
 use Prim.Native.Nat.{ℕ, zero, suc, _+_, _-_, _≤_, _<_}
 use native.Mathlib.Nat.{add-zero, zero-add, add-suc, suc-add, sub-zero, zero-sub, suc-sub-suc, le-of-lt}
@@ -31,7 +32,16 @@ module _ {A : Type 0} where
       sets-eq xs (replicate n z) 0 room
       ∙ ap (λ (r : List A). xs ++ r) (ap (λ (k : ℕ). drop k (replicate n z)) (zero-add (length xs)) ∙ drop-replicate z (length xs) n)
 
-  -- a list filled from the front, all the way
+  filled-suc : (n : ℕ) (v : A) (d : List A) → n < length d → set (replicate n v ++ drop n d) n v ≡ replicate (suc n) v ++ drop (suc n) d
+  filled-suc n v [] h = absurd (omega arith)
+  filled-suc zero v (x ∷ d) h = refl
+  filled-suc (suc n) v (x ∷ d) h = ap (λ (t : List A). v ∷ t) (filled-suc n v d (omega arith))
+
+  -- a list filled from the front: a store of v at n makes it the same at n + 1
+  pub filled-more : (n : ℕ) (v : A) (d : List A) → n < length d → set (replicate n v ++ drop n d) n v ≡ replicate (n + 1) v ++ drop (n + 1) d
+  filled-more n v d h = rw (add-one, filled-suc n v d)
+
+  -- all the way
   pub filled-all : (n : ℕ) (v : A) (d : List A) → n ≡ length d → replicate n v ++ drop n d ≡ replicate (length d) v
   filled-all n v d e =
       ap₂ (λ (x y : List A). x ++ y) (ap (λ (k : ℕ). replicate k v) e) (drop-of-length-le d {i = n} (omega arith)) ∙ append-nil (replicate (length d) v)

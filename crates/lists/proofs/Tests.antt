@@ -2,8 +2,9 @@
 -- Assumes nothing.
 use mathlib.Core.Path.{_≡_, refl, sym, ap, subst}
 use mathlib.Core.Bool.{Bool, true, false, not, _&&_, _||_}
-use mathlib.Core.Logic.{_↔_, _⊎_, inl, inr}
-use lib.Dec.{T, T-not, not-T}
+use mathlib.Core.Logic.{_↔_, _⊎_, inl, inr, ⊎-elim}
+use Prim.Native.Nat.{ℕ, _≤_, _<_}
+use lib.Dec.{T, ltb, ltb→lt, nltb→le}
 
 pub T-and : (a b : Bool) → T (a && b) ↔ (T a × T b)
 T-and true b = (λ t. (tt, t), λ h. h .1)
@@ -13,12 +14,12 @@ pub T-or : (a b : Bool) → T (a || b) ↔ (T a ⊎ T b)
 T-or true b = (λ t. inl tt, λ h. tt)
 T-or false b = (λ t. inr t, λ h. elim h [ inl t ↦ absurd t | inr t ↦ t ])
 
-pub T-not-iff : (a : Bool) → T (not a) ↔ (T a → ⊥)
-T-not-iff a = (T-not a, not-T a)
-
 pub passes-or-fails : (a : Bool) → T a ⊎ T (not a)
 passes-or-fails true = inl tt
 passes-or-fails false = inr tt
+
+pub lt-or-ge : (a b : ℕ) → (a < b) ⊎ (b ≤ a)
+lt-or-ge a b = ⊎-elim (λ t. inl (ltb→lt a b t)) (λ t. inr (nltb→le a b t)) (passes-or-fails (ltb a b))
 
 pub true-of-T : (a : Bool) → T a → a ≡ true
 true-of-T true t = refl

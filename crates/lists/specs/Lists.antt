@@ -1,5 +1,5 @@
 -- The few functions on lists that the definitions are written with: consecutive numbers, the members that pass a test, how many pass,
--- whether all or any do, and a list made up to a length by a filler. Nothing here knows about codes.
+-- whether all or any do, a list made up to a length by a filler, and one that is cleared. Nothing here knows about codes.
 -- What a `let` binds waits until it is read: so the first words of a range of 2 ^ 70 can be looked at without making the rest.
 -- Assumes nothing.
 use Prim.Native.Nat.{ℕ, zero, suc, _+_, _-_}
@@ -37,3 +37,7 @@ sum (suc k) f = f 0 + sum k (λ j. f (suc j))
 -- the list, then the filler up to n members: what a lent table of n entries holds after an accepted call
 unfoldable pub padded : {A : Type 0} → ℕ → A → List A → List A
 padded n z xs = xs ++ replicate (n - length xs) z
+
+-- the filler in every place: what is left of a list that is cleared
+unfoldable pub cleared : {A : Type 0} → A → List A → List A
+cleared z xs = replicate (length xs) z

@@ -1,27 +1,32 @@
--- The first question that says no: asked in two parts, and what follows where none says no.
+-- The first question that says no: asked in two parts, and what follows where none says no: each said yes, by its number (`asked`).
 -- Assumes nothing.
 use mathlib.Core.Path.{_≡_, refl, sym, ap, _∙_}
-use mathlib.Core.Bool.{Bool, true, false, cond}
+use mathlib.Core.Bool.{Bool, true, false, cond, _&&_}
 use mathlib.Core.List.{List, [], _∷_, _++_}
 use Prim.Native.Nat.{ℕ, zero, suc}
 use native.Mathlib.Nat.{suc-ne-zero}
-use lib.Dec.{T, ltb}
-use Rattle.order.specs.Questions.{Question, firstNo, unless}
+use lib.Dec.{T, ltb, eqb}
+use Rattle.lists.proofs.Tests.{T-and}
+use Rattle.order.specs.Questions.{Question, firstNo}
+use Rattle.order.specs.Answer.{Answer, refused, unless, unlessRefused}
 
 -- the first number, or where it is 0 the second
 abbrev pub orElse : ℕ → ℕ → ℕ
 orElse zero y = y
 orElse (suc x) y = suc x
 
--- every question has a number that is not 0: it computes for a list that is written out
-abbrev pub Numbered : List Question → Type 0
-Numbered [] = Unit {0}
-Numbered (q ∷ qs) = T (ltb 0 (q .0)) × Numbered qs
+-- every question has a number that is not 0: `tt`, for a list that is written out
+abbrev hasNumbers : List Question → Bool
+hasNumbers [] = true
+hasNumbers (q ∷ qs) = ltb 0 (q .0) && hasNumbers qs
 
--- every answer is yes
-abbrev pub AllYes : List Question → Type 0
-AllYes [] = Unit {0}
-AllYes (q ∷ qs) = (q .1 ≡ true) × AllYes qs
+abbrev pub Numbered : List Question → Type 0
+Numbered qs = T (hasNumbers qs)
+
+-- what the first question of number k says; yes where there is none
+abbrev pub answerTo : ℕ → List Question → Bool
+answerTo k [] = true
+answerTo k (q ∷ qs) = cond (eqb k (q .0)) (q .1) (answerTo k qs)
 
 numbered-or : (n y : ℕ) → T (ltb 0 n) → n ≡ orElse n y
 numbered-or zero y t = absurd t
@@ -44,12 +49,15 @@ firstNo-no q qs e = ap (λ (b : Bool). cond b (firstNo qs) (q .0)) e
 pub firstNo-++ : (qs rest : List Question) → Numbered qs → firstNo (qs ++ rest) ≡ orElse (firstNo qs) (firstNo rest)
 unfolding firstNo
 firstNo-++ [] rest n = refl
-firstNo-++ (q ∷ qs) rest n = by (firstNo-++ qs rest (n .1)) (q .1)
+firstNo-++ (q ∷ qs) rest n = by (firstNo-++ qs rest (numbers .1)) (q .1)
   where
+    numbers : T (ltb 0 (q .0)) × Numbered qs
+    numbers = T-and (ltb 0 (q .0)) (hasNumbers qs) .0 n
+
     by : firstNo (qs ++ rest) ≡ orElse (firstNo qs) (firstNo rest) → (b : Bool)
         → cond b (firstNo (qs ++ rest)) (q .0) ≡ orElse (cond b (firstNo qs) (q .0)) (firstNo rest)
     by later true = later
-    by later false = numbered-or (q .0) (firstNo rest) (n .0)
+    by later false = numbered-or (q .0) (firstNo rest) (numbers .0)
 
 -- a first part that refuses, and one that does not
 pub refused-first : (qs rest : List Question) (r : ℕ) → Numbered qs → r ≡ firstNo qs → (r ≡ 0 → ⊥) → r ≡ firstNo (qs ++ rest)
@@ -64,27 +72,58 @@ refused-later qs rest r x n e z ex = ex ∙ ap (λ (k : ℕ). orElse k (firstNo 
 
 -- ---- a call's answer
 
-module _ {A : Type 0} (refused : ℕ → A) (answer : A) where
-  pub is-refused : (r n : ℕ) → r ≡ n → (r ≡ 0 → ⊥) → refused r ≡ unless refused n answer
+module _ {A : Type 0} (answer : Answer A) where
+  pub is-refused : (r n : ℕ) → r ≡ n → (r ≡ 0 → ⊥) → refused r ≡ unless n answer
   unfolding unless
   is-refused zero n e nz = absurd (nz refl)
-  is-refused (suc r) n e nz = ap (λ (k : ℕ). unless refused k answer) e
+  is-refused (suc r) n e nz = ap (λ (k : ℕ). unless k answer) e
 
-  pub is-answered : (n : ℕ) → 0 ≡ n → answer ≡ unless refused n answer
+  pub is-answered : (n : ℕ) → 0 ≡ n → answer ≡ unless n answer
   unfolding unless
-  is-answered n e = ap (λ (k : ℕ). unless refused k answer) e
+  is-answered n e = ap (λ (k : ℕ). unless k answer) e
+
+module _ {A L : Type 0} (lent : L) (outcome : Answer A × L) where
+  pub leaves-refused : (r n : ℕ) → r ≡ n → (r ≡ 0 → ⊥) → _≡_ {A = Answer A × L} (refused r, lent) (unlessRefused n lent outcome)
+  unfolding unlessRefused
+  leaves-refused zero n e nz = absurd (nz refl)
+  leaves-refused (suc r) n e nz = ap (λ (k : ℕ). unlessRefused k lent outcome) e
+
+  pub leaves-answered : (n : ℕ) → 0 ≡ n → outcome ≡ unlessRefused n lent outcome
+  unfolding unlessRefused
+  leaves-answered n e = ap (λ (k : ℕ). unlessRefused k lent outcome) e
 
 -- ---- no refusal: every question says yes
 
-pub yes-of-firstNo : (qs : List Question) → Numbered qs → firstNo qs ≡ 0 → AllYes qs
+-- a question with a number that is not 0, and those after it
+pub first-yes : (q : Question) (qs : List Question) → T (ltb 0 (q .0)) → firstNo (q ∷ qs) ≡ 0 → (q .1 ≡ true) × (firstNo qs ≡ 0)
 unfolding firstNo
-yes-of-firstNo [] n e = tt
-yes-of-firstNo (q ∷ qs) n e = by (λ e′. yes-of-firstNo qs (n .1) e′) (q .1) refl e
+first-yes q qs n e = by (q .1) refl e
   where
     not-zero : (k : ℕ) → T (ltb 0 k) → k ≡ 0 → ⊥
     not-zero zero t e′ = t
     not-zero (suc k) t e′ = suc-ne-zero k e′
 
-    by : (firstNo qs ≡ 0 → AllYes qs) → (b : Bool) → q .1 ≡ b → cond b (firstNo qs) (q .0) ≡ 0 → (q .1 ≡ true) × AllYes qs
-    by later true eb e′ = (eb, later e′)
-    by later false eb e′ = absurd (not-zero (q .0) (n .0) e′)
+    by : (b : Bool) → q .1 ≡ b → cond b (firstNo qs) (q .0) ≡ 0 → (q .1 ≡ true) × (firstNo qs ≡ 0)
+    by true eb e′ = (eb, e′)
+    by false eb e′ = absurd (not-zero (q .0) n e′)
+
+-- question k said yes, asked for by its number
+pub asked : (k : ℕ) (qs : List Question) → Numbered qs → firstNo qs ≡ 0 → answerTo k qs ≡ true
+asked k [] n e = refl
+asked k (q ∷ qs) n e =
+    let numbers = T-and (ltb 0 (q .0)) (hasNumbers qs) .0 n in
+    let here = first-yes q qs (numbers .0) e in
+    by (asked k qs (numbers .1) (here .1)) (here .0) (eqb k (q .0))
+  where
+    by : answerTo k qs ≡ true → q .1 ≡ true → (b : Bool) → cond b (q .1) (answerTo k qs) ≡ true
+    by later here true = here
+    by later here false = later
+
+-- two parts of which none refuses
+pub none-in-parts : (qs rest : List Question) → Numbered qs → firstNo (qs ++ rest) ≡ 0 → (firstNo qs ≡ 0) × (firstNo rest ≡ 0)
+none-in-parts [] rest n e = (firstNo-none, e)
+none-in-parts (q ∷ qs) rest n e =
+    let numbers = T-and (ltb 0 (q .0)) (hasNumbers qs) .0 n in
+    let here = first-yes q (qs ++ rest) (numbers .0) e in
+    let later = none-in-parts qs rest (numbers .1) (here .1) in
+    (firstNo-yes q qs (here .0) ∙ later .0, later .1)

@@ -1,24 +1,31 @@
 -- What follows from the questions about a record: the refusals in their order, and that an accepted record's fields are its order.
 -- Assumes nothing.
-use mathlib.Core.Path.{_≡_, refl, sym, ap, ap₂, _∙_, subst}
-use mathlib.Core.Bool.{Bool, true, false}
-use mathlib.Core.List.{List, [], _∷_, _++_}
+use mathlib.Core.Path.{_≡_, refl, sym, ap, ap₂, _∙_}
+use mathlib.Core.Logic.{inl, inr}
+use mathlib.Core.Bool.{false}
+use mathlib.Core.List.{List, [], _∷_, _++_, map}
 use Prim.Native.Nat.{ℕ, zero, suc, _+_, _-_, _*_, _≤_, _<_}
 use native.Mathlib.Nat.{not-suc-le-zero, le-of-suc-le-suc}
 use native.Mathlib.Omega.{arith}
 use borrow.Author.Tests.{lt-leb, le-leb, leb-true, eqb-true}
 use lib.Dec.{leb, eqb}
-use lib.ListN.{length, getD, take, List·getD-eq-default}
+use lib.ListN.{length, getD, length-map, List·getD-eq-default}
 use Rattle.lists.specs.Lists.{upFrom}
+use Rattle.lists.proofs.Lengths.{length-upFrom}
+use Rattle.lists.proofs.Tests.{lt-or-ge}
 use Rattle.lists.proofs.Tests.{and-yes, and-no, both}
-use Rattle.order.specs.Questions.{firstNo, from-to, orderNumbers, generatorQuestions}
-use Rattle.order.specs.Order as Spec
-use Rattle.order.specs.Order.{be16, lengthRight, versionRight, countRight, recordQuestions, orderQuestions, readGenerators, readFields, reading, read}
-use Rattle.order.specs.Answers.{recordOf, fieldsOf, readingOf}
+use Rattle.order.specs.Questions.{firstNo, shapeQuestions}
+use Rattle.order.specs.Answer.{accepted, unless}
+use Rattle.order.specs.Order.{Order, be16, lengthRight, versionRight, countRight, recordQuestions, orderQuestions, readGenerators, readFields, read}
+use Rattle.order.specs.Answers.{generatorIn, orderIn, recordOf, readingOf}
+use Rattle.order.specs.Model.Fields.{fieldsOf}
+use Rattle.order.specs.declared.questions.Takes.the-variants as T
 use Rattle.order.specs.declared.record.OrderRecord.{OrderRecord}
 use Rattle.order.specs.declared.record.Reading.the-variants as R
-use Rattle.order.proofs.Answers.{range}
-use Rattle.order.proofs.FirstNo.{Numbered, yes-of-firstNo, refused-first, refused-later}
+use Rattle.order.specs.Model.Accepted.{AcceptedAs}
+use Rattle.order.proofs.Answers.{not-too-small}
+use Rattle.order.proofs.FirstNo.{Numbered, firstNo-no, asked, refused-first, refused-later}
+use Rattle.order.proofs.Asked.{length-orderIn, accepted-order}
 
 -- ---- single tests, in the shape of the code
 
@@ -42,46 +49,26 @@ pub count-none : (bytes : List ℕ) → length bytes < 4 → false ≡ countRigh
 unfolding countRight
 count-none bytes h = and-no _ _ (lt-leb 4 (length bytes) h)
 
-pub count-outside : (bytes : List ℕ) (n : ℕ) (b : Bool) → 4 ≤ length bytes → n ≡ getD bytes 3 0 → b ≡ from-to 2 4 n → b ≡ false → false ≡ countRight bytes
+pub count-told : (bytes : List ℕ) (n x : ℕ) → 4 ≤ length bytes → n ≡ getD bytes 3 0 → x ≡ be16 bytes 0 → eqb x (6 + 2 * n) ≡ countRight bytes
 unfolding countRight
-count-outside bytes n b h e eb f =
-    and-no _ _ (ap (from-to 2 4) (sym e) ∙ sym eb ∙ f) ∙ and-yes _ _ (le-leb 4 (length bytes) h)
-
-pub count-told : (bytes : List ℕ) (n x : ℕ) (b : Bool) → 4 ≤ length bytes → n ≡ getD bytes 3 0 → b ≡ from-to 2 4 n → b ≡ true → x ≡ be16 bytes 0
-    → eqb x (6 + 2 * n) ≡ countRight bytes
-unfolding countRight
-count-told bytes n x b h e eb t ex =
-    ap₂ (λ (y k : ℕ). eqb y (6 + 2 * k)) ex e ∙ and-yes _ _ (ap (from-to 2 4) (sym e) ∙ sym eb ∙ t) ∙ and-yes _ _ (le-leb 4 (length bytes) h)
+count-told bytes n x h e ex = ap₂ (λ (y k : ℕ). eqb y (6 + 2 * k)) ex e ∙ and-yes _ _ (le-leb 4 (length bytes) h)
 
 -- ---- what an accepted record may use
 
-record-numbered : (bytes : List ℕ) → Numbered (recordQuestions bytes)
+pub record-numbered : (bytes : List ℕ) → Numbered (recordQuestions bytes)
 unfolding recordQuestions
-record-numbered bytes = (tt, (tt, (tt, tt)))
+record-numbered bytes = tt
 
--- n, and how many bytes there are
-pub record-shape : (bytes : List ℕ) (r : ℕ) → r ≡ firstNo (recordQuestions bytes) → r ≡ 0 → (2 ≤ getD bytes 3 0) × (getD bytes 3 0 ≤ 4) × (length bytes ≡ 8 + 2 * getD bytes 3 0)
+-- how many bytes there are
+record-size : (bytes : List ℕ) → firstNo (recordQuestions bytes) ≡ 0 → length bytes ≡ 8 + 2 * getD bytes 3 0
 unfolding recordQuestions lengthRight countRight
-record-shape bytes r e z =
-    let yes = yes-of-firstNo (recordQuestions bytes) (record-numbered bytes) (sym e ∙ z) in
-    let one = both (leb 2 (length bytes)) (eqb (be16 bytes 0) (length bytes - 2)) (yes .0) in
-    let three = both (from-to 2 4 (getD bytes 3 0)) (eqb (be16 bytes 0) (6 + 2 * getD bytes 3 0)) (both (leb 4 (length bytes)) _ (yes .1 .1 .0) .1) in
-    let n = range 2 4 (getD bytes 3 0) (three .0) in
-    let two : 2 ≤ length bytes = leb-true 2 (length bytes) (one .0) in
-    let stated : be16 bytes 0 ≡ length bytes - 2 = eqb-true (be16 bytes 0) (length bytes - 2) (one .1) in
-    let needed : be16 bytes 0 ≡ 6 + 2 * getD bytes 3 0 = eqb-true (be16 bytes 0) (6 + 2 * getD bytes 3 0) (three .1) in
-    (n .0, n .1, omega arith)
-
--- the first n of the four generators are the record's
-pub first-generators : (bytes : List ℕ) (n : ℕ) → 2 ≤ n → n ≤ 4 → take n (be16 bytes 8 ∷ be16 bytes 10 ∷ be16 bytes 12 ∷ be16 bytes 14 ∷ []) ≡ readGenerators bytes n
-unfolding readGenerators upFrom
-first-generators bytes zero h l = absurd (not-suc-le-zero h)
-first-generators bytes (suc zero) h l = absurd (not-suc-le-zero (le-of-suc-le-suc h))
-first-generators bytes (suc (suc zero)) h l = refl
-first-generators bytes (suc (suc (suc zero))) h l = refl
-first-generators bytes (suc (suc (suc (suc zero)))) h l = refl
-first-generators bytes (suc (suc (suc (suc (suc n))))) h l =
-    absurd (not-suc-le-zero (le-of-suc-le-suc (le-of-suc-le-suc (le-of-suc-le-suc (le-of-suc-le-suc l)))))
+record-size bytes e =
+    let stated = both (leb 2 (length bytes)) (eqb (be16 bytes 0) (length bytes - 2)) (asked 1 _ tt e) in
+    let needed = both (leb 4 (length bytes)) (eqb (be16 bytes 0) (6 + 2 * getD bytes 3 0)) (asked 3 _ tt e) in
+    let some : 2 ≤ length bytes = leb-true 2 (length bytes) (stated .0) in
+    let a : be16 bytes 0 ≡ length bytes - 2 = eqb-true _ _ (stated .1) in
+    let b : be16 bytes 0 ≡ 6 + 2 * getD bytes 3 0 = eqb-true _ _ (needed .1) in
+    omega arith
 
 -- past the end there are zeros
 past : (bytes : List ℕ) (i : ℕ) → length bytes ≤ i → be16 bytes i ≡ 0
@@ -107,61 +94,82 @@ fields-are-record bytes h l e =
     let g = generators-of bytes (getD bytes 3 0) h l e in
     λ i. record { n = sym (g .0) i; v = getD bytes 4 0; bits = getD bytes 5 0; m = getD bytes 6 0; d = getD bytes 7 0; g1 = sym (g .1) i; g2 = sym (g .2) i; g3 = sym (g .3) i; g4 = sym (g .4) i }
 
+-- the order that the fields tell is the record's, of up to four generators
+fields-order : (bytes : List ℕ) → getD bytes 3 0 ≤ 4 → orderIn (fieldsOf bytes) ≡ readFields bytes
+unfolding fieldsOf orderIn readFields readGenerators upFrom generatorIn
+fields-order bytes h =
+    ap (λ (gs : List ℕ). record { v = getD bytes 4 0; N = getD bytes 5 0; m = getD bytes 6 0; d = getD bytes 7 0; generators = gs }) (by (getD bytes 3 0) h)
+  where
+    by : (n : ℕ) → n ≤ 4 → map (generatorIn (fieldsOf bytes)) (upFrom 0 n) ≡ readGenerators bytes n
+    by zero l = refl
+    by (suc zero) l = refl
+    by (suc (suc zero)) l = refl
+    by (suc (suc (suc zero))) l = refl
+    by (suc (suc (suc (suc zero)))) l = refl
+    by (suc (suc (suc (suc (suc n))))) l = absurd (omega arith)
+
+-- the struct of an order of up to four generators tells it whole
+pub order-of-record : (o : Order) → length (o .generators) ≤ 4 → orderIn (recordOf o) ≡ o
+unfolding orderIn recordOf upFrom generatorIn
+order-of-record o h = ap (λ (gs : List ℕ). record { v = o .v; N = o .N; m = o .m; d = o .d; generators = gs }) (by (o .generators) h)
+  where
+    by : (gs : List ℕ) → length gs ≤ 4 → map (λ (k : ℕ). getD (getD gs 0 0 ∷ getD gs 1 0 ∷ getD gs 2 0 ∷ getD gs 3 0 ∷ []) k 0) (upFrom 0 (length gs)) ≡ gs
+    by [] l = refl
+    by (a ∷ []) l = refl
+    by (a ∷ b ∷ []) l = refl
+    by (a ∷ b ∷ c ∷ []) l = refl
+    by (a ∷ b ∷ c ∷ d ∷ []) l = refl
+    by (a ∷ b ∷ c ∷ d ∷ e ∷ gs) l = absurd (omega arith)
+
+length-fields : (bytes : List ℕ) → length (orderIn (fieldsOf bytes) .generators) ≡ getD bytes 3 0
+unfolding fieldsOf
+length-fields bytes = length-orderIn (fieldsOf bytes)
+
+length-read : (bytes : List ℕ) → length (readFields bytes .generators) ≡ getD bytes 3 0
+unfolding readFields readGenerators
+length-read bytes = length-map (upFrom 0 (getD bytes 3 0)) (λ (k : ℕ). be16 bytes (8 + 2 * k)) ∙ length-upFrom 0 (getD bytes 3 0)
+
+too-many : (o : Order) → 4 < length (o .generators) → firstNo (orderQuestions T.Everything o) ≡ 3
+unfolding orderQuestions shapeQuestions
+too-many o h = firstNo-no _ _ (sym (not-too-small 2 4 (length (o .generators)) (omega arith)) ∙ lt-leb (length (o .generators)) 4 h)
+
 -- ---- the reading
 
 module _ (bytes : List ℕ) where
-  pub reading-refused : (r : ℕ) → r ≡ firstNo (recordQuestions bytes ++ orderQuestions (readFields bytes)) → (r ≡ 0 → ⊥) → R.Refused r ≡ readingOf (read bytes)
-  unfolding read reading readingOf
-  reading-refused zero e n = absurd (n refl)
-  reading-refused (suc r) e n = ap (λ (k : ℕ). readingOf (reading (readFields bytes) k)) e
+  -- the questions about the fields are those about the record's order: of more than four generators both say 3
+  inside-same : firstNo (orderQuestions T.Everything (orderIn (fieldsOf bytes))) ≡ firstNo (orderQuestions T.Everything (readFields bytes))
+  inside-same = elim (lt-or-ge 4 (getD bytes 3 0)) [
+    | inl more ↦ too-many (orderIn (fieldsOf bytes)) (rw (length-fields bytes) more) ∙ sym (too-many (readFields bytes) (rw (length-read bytes) more))
+    | inr few ↦ ap (λ (o : Order). firstNo (orderQuestions T.Everything o)) (fields-order bytes few)
+  ]
 
-  pub reading-order : 0 ≡ firstNo (recordQuestions bytes ++ orderQuestions (readFields bytes)) → R.Order (recordOf (readFields bytes)) ≡ readingOf (read bytes)
-  unfolding read reading readingOf
-  reading-order e = ap (λ (k : ℕ). readingOf (reading (readFields bytes) k)) e
+  reading-refused : (r : ℕ) → r ≡ firstNo (recordQuestions bytes ++ orderQuestions T.Everything (readFields bytes)) → (r ≡ 0 → ⊥) → R.Refused r ≡ readingOf (read bytes)
+  unfolding read unless readingOf
+  reading-refused zero e n = absurd (n refl)
+  reading-refused (suc r) e n = ap (λ (k : ℕ). readingOf (unless k (accepted (readFields bytes)))) e
+
+  reading-order : 0 ≡ firstNo (recordQuestions bytes ++ orderQuestions T.Everything (readFields bytes)) → R.Order (recordOf (readFields bytes)) ≡ readingOf (read bytes)
+  unfolding read unless readingOf
+  reading-order e = ap (λ (k : ℕ). readingOf (unless k (accepted (readFields bytes)))) e
 
   module _ (r : ℕ) (er : r ≡ firstNo (recordQuestions bytes)) where
     pub read-refused-outside : (r ≡ 0 → ⊥) → R.Refused r ≡ readingOf (read bytes)
-    read-refused-outside n =
-        reading-refused r (refused-first (recordQuestions bytes) (orderQuestions (readFields bytes)) r (record-numbered bytes) er n) n
+    read-refused-outside n = reading-refused r (refused-first _ _ r (record-numbered bytes) er n) n
 
-    module _ (z : r ≡ 0) (o : OrderRecord) (eo : o ≡ fieldsOf bytes) (x : ℕ) (ex : x ≡ firstNo (orderNumbers (o .v) (o .bits) (o .m) (o .d))) where
-      numbers : x ≡ firstNo (orderNumbers (getD bytes 4 0) (getD bytes 5 0) (getD bytes 6 0) (getD bytes 7 0))
-      unfolding fieldsOf
-      numbers = ex ∙ ap (λ (q : OrderRecord). firstNo (orderNumbers (q .v) (q .bits) (q .m) (q .d))) eo
+    module _ (z : r ≡ 0) (o : OrderRecord) (eo : o ≡ fieldsOf bytes) (x : ℕ) (ex : x ≡ firstNo (orderQuestions T.Everything (orderIn o))) where
+      asked-inside : x ≡ firstNo (orderQuestions T.Everything (readFields bytes))
+      asked-inside = ex ∙ ap (λ (q : OrderRecord). firstNo (orderQuestions T.Everything (orderIn q))) eo ∙ inside-same
 
-      inside : (y : ℕ) → y ≡ firstNo (orderQuestions (readFields bytes)) → y ≡ firstNo (recordQuestions bytes ++ orderQuestions (readFields bytes))
-      inside y ey = refused-later (recordQuestions bytes) (orderQuestions (readFields bytes)) r y (record-numbered bytes) er z ey
+      asked-all : x ≡ firstNo (recordQuestions bytes ++ orderQuestions T.Everything (readFields bytes))
+      asked-all = refused-later _ _ r x (record-numbered bytes) er z asked-inside
 
-      pub read-refused-numbers : (x ≡ 0 → ⊥) → R.Refused x ≡ readingOf (read bytes)
-      unfolding orderQuestions readFields orderNumbers
-      read-refused-numbers n = reading-refused x (inside x (refused-first _ _ x (tt, (tt, (tt, (tt, tt)))) numbers n)) n
+      pub read-refused-inside : (x ≡ 0 → ⊥) → R.Refused x ≡ readingOf (read bytes)
+      read-refused-inside n = reading-refused x asked-all n
 
-      module _ (zx : x ≡ 0) where
-        pub memory-small : o .v ≤ 8
-        unfolding orderNumbers
-        memory-small = range 1 8 (o .v) (yes-of-firstNo (orderNumbers (o .v) (o .bits) (o .m) (o .d)) (tt, (tt, (tt, (tt, tt)))) (sym ex ∙ zx) .0) .1
-
-        module _ (y : ℕ) (ey : y ≡ firstNo (generatorQuestions (o .v) (take (o .n) (o .g1 ∷ o .g2 ∷ o .g3 ∷ o .g4 ∷ [])))) where
-          generators : y ≡ firstNo (generatorQuestions (getD bytes 4 0) (readGenerators bytes (getD bytes 3 0)))
-          unfolding fieldsOf
-          generators =
-              let shape = record-shape bytes r er z in
-              ey
-              ∙ ap (λ (q : OrderRecord). firstNo (generatorQuestions (q .v) (take (q .n) (q .g1 ∷ q .g2 ∷ q .g3 ∷ q .g4 ∷ [])))) eo
-              ∙ ap (λ (gs : List ℕ). firstNo (generatorQuestions (getD bytes 4 0) gs)) (first-generators bytes (getD bytes 3 0) (shape .0) (shape .1))
-
-          all-asked : y ≡ firstNo (orderQuestions (readFields bytes))
-          unfolding orderQuestions readFields orderNumbers
-          all-asked = refused-later _ _ x y (tt, (tt, (tt, (tt, tt)))) numbers zx generators
-
-          pub read-refused-generators : (y ≡ 0 → ⊥) → R.Refused y ≡ readingOf (read bytes)
-          read-refused-generators n = reading-refused y (inside y all-asked) n
-
-          pub read-accepted : y ≡ 0 → R.Order o ≡ readingOf (read bytes)
-          read-accepted zy =
-              let shape = record-shape bytes r er z in
-              ap R.Order (eo ∙ fields-are-record bytes (shape .0) (shape .1) (shape .2)) ∙ reading-order (sym zy ∙ inside y all-asked)
-
-    pub count-small : (o : OrderRecord) → r ≡ 0 → o ≡ fieldsOf bytes → o .n ≤ 4
-    unfolding fieldsOf
-    count-small o z eo = subst (λ (k : ℕ). k ≤ 4) (sym (ap (λ (q : OrderRecord). q .n) eo)) (record-shape bytes r er z .1)
+      pub read-accepted : x ≡ 0 → R.Order o ≡ readingOf (read bytes)
+      unfolding AcceptedAs
+      read-accepted zx =
+          let code = accepted-order T.Everything (readFields bytes) (sym asked-inside ∙ zx) .order .code in
+          let count : length (readFields bytes .generators) ≡ getD bytes 3 0 = length-read bytes in
+          ap R.Order (eo ∙ fields-are-record bytes (rw (← count) (code .some-generators)) (rw (← count) (code .few-generators)) (record-size bytes (sym er ∙ z)))
+          ∙ reading-order (sym zx ∙ asked-all)

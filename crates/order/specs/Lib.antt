@@ -1,3 +1,5 @@
 pub mod Questions
+pub mod Answer
 pub mod Order
 pub mod Answers
+pub mod Model

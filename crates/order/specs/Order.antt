@@ -1,13 +1,16 @@
--- An order: a code, a word length, the degree of the check polynomial to be found, and a threshold on weights. Its record of bytes, read in
--- document 01's order of questions 1 to 9.
+-- An order: a code, a word length, the degree of the check polynomial to be found, and a threshold on weights; the questions about it; and its
+-- record of bytes, read in document 01's order of questions 1 to 9.
 -- Assumes nothing.
-use Prim.Native.Nat.{ℕ, zero, suc, _+_, _-_, _*_, _/_, _%_}
+use Prim.Native.Nat.{ℕ, _+_, _-_, _*_}
 use mathlib.Core.Bool.{Bool, _&&_}
-use mathlib.Core.List.{List, [], _∷_, _++_, map, flatMap}
+use mathlib.Core.List.{List, [], _∷_, _++_, map}
 use lib.Dec.{leb, eqb}
 use lib.ListN.{length, getD}
 use Rattle.lists.specs.Lists.{upFrom}
-use Rattle.order.specs.Questions.{Question, firstNo, from-to, orderNumbers, generatorQuestions}
+use Rattle.order.specs.Questions.{Question, firstNo, shapeQuestions, checkDegree, threshold, generatorQuestions}
+use Rattle.order.specs.Answer.{Answer, accepted, unless}
+use Rattle.order.specs.declared.questions.Takes.{Takes}
+use Rattle.order.specs.declared.questions.Takes.the-variants as T
 
 pub record Order : Type 0 where
   -- v: how many earlier inputs the encoder remembers
@@ -20,6 +23,19 @@ pub record Order : Type 0 where
   pub d : ℕ
   -- n of them, the first first
   pub generators : List ℕ
+
+-- ---- the questions about an order
+
+-- 6 and 7, as far as a call takes them: the code alone, a threshold too, or everything
+unfoldable pub numberQuestions : Takes → Order → List Question
+numberQuestions T.Code o = []
+numberQuestions T.Threshold o = threshold (o .d) ∷ []
+numberQuestions T.Everything o = checkDegree (o .N) (o .m) ∷ threshold (o .d) ∷ []
+
+-- 3 to 9. Every call that takes an order asks this list first, so a new question about orders has one place.
+unfoldable pub orderQuestions : Takes → Order → List Question
+orderQuestions takes o =
+    shapeQuestions (length (o .generators)) (o .v) (o .N) ++ (numberQuestions takes o ++ generatorQuestions (o .v) (o .generators))
 
 -- ---- the record: the length of what follows in 2 bytes, version 1, n, v, N, m, d, then n generators of 2 bytes each, all big-endian
 
@@ -44,35 +60,14 @@ lengthRight bytes = leb 2 (length bytes) && eqb (be16 bytes 0) (length bytes - 2
 unfoldable pub versionRight : List ℕ → Bool
 versionRight bytes = leb 3 (length bytes) && eqb (getD bytes 2 0) 1
 
--- n is there and from 2 to 4, and the length is 6 + 2n
+-- n is there, and the length is 6 + 2n; that n is from 2 to 4 is the first question about the order
 unfoldable pub countRight : List ℕ → Bool
-countRight bytes = leb 4 (length bytes) && (from-to 2 4 (getD bytes 3 0) && eqb (be16 bytes 0) (6 + 2 * getD bytes 3 0))
+countRight bytes = leb 4 (length bytes) && eqb (be16 bytes 0) (6 + 2 * getD bytes 3 0)
 
--- questions 1 to 3, which are about the record itself
+-- questions 1 to 3, as far as they are about the record itself
 unfoldable pub recordQuestions : List ℕ → List Question
 recordQuestions bytes = (1, lengthRight bytes) ∷ (2, versionRight bytes) ∷ (3, countRight bytes) ∷ []
 
--- questions 4 to 9
-unfoldable pub orderQuestions : Order → List Question
-orderQuestions o = orderNumbers (o .v) (o .N) (o .m) (o .d) ++ generatorQuestions (o .v) (o .generators)
-
 -- what reading a record gives: an order, or the number of the first question that says no
-pub data Reading : Type 0 where
-  order : Order → Reading
-  refused : ℕ → Reading
-
-unfoldable pub reading : Order → ℕ → Reading
-reading o zero = order o
-reading o (suc k) = refused (suc k)
-
-unfoldable pub read : List ℕ → Reading
-read bytes = reading (readFields bytes) (firstNo (recordQuestions bytes ++ orderQuestions (readFields bytes)))
-
--- ---- the other way: the record of an order
-
-unfoldable pub bytes16 : ℕ → List ℕ
-bytes16 x = x / 256 ∷ x % 256 ∷ []
-
-unfoldable pub write : Order → List ℕ
-write o =
-    bytes16 (6 + 2 * length (o .generators)) ++ (1 ∷ length (o .generators) ∷ o .v ∷ o .N ∷ o .m ∷ o .d ∷ flatMap bytes16 (o .generators))
+unfoldable pub read : List ℕ → Answer Order
+read bytes = unless (firstNo (recordQuestions bytes ++ orderQuestions T.Everything (readFields bytes))) (accepted (readFields bytes))

@@ -1,8 +1,8 @@
 -- Document 01's questions 3 to 12, each as a test, and the number of the first that says no. Questions 1 and 2 are about the bytes of a record
--- (`Order.antt`); 13 to 15 are asked once events, paths and candidates have been counted (`search`).
+-- (`Order.antt`, which has the questions about a whole order); 13 to 15 are asked once events, paths and candidates have been counted (`search`).
 -- A call asks the questions about the values that it takes, in their order.
 -- Assumes nothing.
-use Prim.Native.Nat.{ℕ, zero, suc, _+_, _-_, _/_, _^_}
+use Prim.Native.Nat.{ℕ, _+_, _-_, _/_, _^_}
 use mathlib.Core.Bool.{Bool, cond, _&&_}
 use mathlib.Core.List.{List, [], _∷_}
 use lib.Dec.{leb, ltb, eqb}
@@ -17,11 +17,6 @@ Question = ℕ × Bool
 unfoldable pub firstNo : List Question → ℕ
 firstNo [] = 0
 firstNo (q ∷ qs) = let rest = firstNo qs in cond (q .1) rest (q .0)
-
--- what a call answers: its answer where no question says no, and else the refusal with that question's number
-unfoldable pub unless : {A : Type 0} → (ℕ → A) → ℕ → A → A
-unless refused zero answer = answer
-unless refused (suc k) answer = refused (suc k)
 
 unfoldable pub from-to : ℕ → ℕ → ℕ → Bool
 from-to low high x = leb low x && leb x high
@@ -81,7 +76,3 @@ shapeQuestions n v N = generatorCount n ∷ memory v ∷ wordLength v N ∷ []
 -- 8 and 9
 unfoldable pub generatorQuestions : ℕ → List ℕ → List Question
 generatorQuestions v gs = generatorRange v gs ∷ generatorEnds v gs ∷ []
-
--- 4 to 7, of an order
-unfoldable pub orderNumbers : ℕ → ℕ → ℕ → ℕ → List Question
-orderNumbers v N m d = memory v ∷ wordLength v N ∷ checkDegree N m ∷ threshold d ∷ []

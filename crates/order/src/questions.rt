@@ -7,6 +7,16 @@ ghost use Rattle.lists.specs.Lists.{all, any};
 ghost use Rattle.poly.specs.Poly.{bit};
 ghost use Rattle.order.specs.Questions.{firstNo, from-to, inRange, hasBit, shapeQuestions, generatorQuestions};
 
+// The numbers that a work area has at least.
+pub const WORK_SIZE: usize = 8192;
+
+// What a call takes of an order, and so asks about: its code alone, its code and threshold, or everything.
+pub enum Takes {
+    Code,
+    Threshold,
+    Everything,
+}
+
 pub fn from_to(low: u64, high: u64, x: u64) -> bool
     ensures { λ r. ⌜ r ≡ from-to low high x ⌝ }
 {
@@ -16,12 +26,12 @@ pub fn from_to(low: u64, high: u64, x: u64) -> bool
     x <= high
 }
 
-// Question 6: is the degree from 1 to 12 and below n?
-pub fn degree_fits(n: u64, m: u64) -> bool
-    ensures { λ r. ⌜ r ≡ (from-to 1 12 m && ltb m n) ⌝ }
+// Question 6: is the degree from 1 to 12 and below N?
+pub fn degree_fits(bits: u64, m: u64) -> bool
+    ensures { λ r. ⌜ r ≡ (from-to 1 12 m && ltb m bits) ⌝ }
 {
     if from_to(1, 12, m) {
-        return m < n;
+        return m < bits;
     }
     false
 }

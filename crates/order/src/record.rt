@@ -3,10 +3,13 @@ ghost use mathlib.Core.Path.{_≡_};
 ghost use mathlib.Core.List.{[], _∷_};
 ghost use Prim.Native.Nat.{_<_, _≤_};
 ghost use lib.ListN.{length, getD, take};
-ghost use Rattle.order.specs.Questions.{firstNo, orderNumbers, generatorQuestions};
-ghost use Rattle.order.specs.Order.{be16, lengthRight, versionRight, countRight, read, recordQuestions};
-ghost use Rattle.order.specs.Answers.{fieldsOf, readingOf};
+ghost use Rattle.order.specs.Questions.{firstNo, checkDegree, threshold, generatorQuestions};
+ghost use Rattle.order.specs.Order.{be16, lengthRight, versionRight, countRight, read, recordQuestions, numberQuestions, orderQuestions};
+ghost use Rattle.order.specs.Answers.{orderIn, readingOf};
+ghost use Rattle.order.specs.Model.Fields.{fieldsOf};
+use super::questions::Takes;
 use super::questions::ask_generators;
+use super::questions::ask_shape;
 use super::questions::degree_fits;
 use super::questions::from_to;
 
@@ -68,18 +71,14 @@ fn version_right(bytes: &[u8]) -> bool
     byte_at(bytes, 2) == 1
 }
 
-// Question 3: is n there and from 2 to 4, and is the length 6 + 2n?
+// Question 3, of the record: is n there, and is the length 6 + 2n?
 fn count_right(bytes: &[u8]) -> bool
     ensures { λ r. ⌜ r ≡ countRight (now (bytes .entry)) ⌝ }
 {
     if bytes.len() < 4 {
         return false;
     }
-    let n = byte_at(bytes, 3);
-    if !from_to(2, 4, n) {
-        return false;
-    }
-    two_at(bytes, 0) == 6 + 2 * n
+    two_at(bytes, 0) == 6 + 2 * byte_at(bytes, 3)
 }
 
 // Questions 1, 2 and 3 of a record: the number of the first that says no, or 0.
@@ -114,23 +113,35 @@ fn fields(bytes: &[u8]) -> OrderRecord
     }
 }
 
-// Questions 4 to 7: the number of the first that says no, or 0.
-pub fn ask_numbers(v: u64, bits: u64, m: u64, d: u64) -> u64
-    ensures { λ r. ⌜ r ≡ firstNo (orderNumbers v bits m d) ⌝ }
+// Question 7: the number, or 0.
+fn ask_threshold(d: u64) -> u64
+    ensures { λ r. ⌜ r ≡ firstNo (threshold d ∷ []) ⌝ }
 {
-    if !from_to(1, 8, v) {
-        return 4;
-    }
-    if !from_to(v, 128, bits) {
-        return 5;
-    }
-    if !degree_fits(bits, m) {
-        return 6;
-    }
     if !from_to(1, 64, d) {
         return 7;
     }
     0
+}
+
+// Questions 6 and 7: the number of the first that says no, or 0.
+fn ask_degree(bits: u64, m: u64, d: u64) -> u64
+    ensures { λ r. ⌜ r ≡ firstNo (checkDegree bits m ∷ threshold d ∷ []) ⌝ }
+{
+    if !degree_fits(bits, m) {
+        return 6;
+    }
+    ask_threshold(d)
+}
+
+// The same, as far as the call takes them.
+fn ask_numbers(takes: Takes, o: OrderRecord) -> u64
+    ensures { λ r. ⌜ r ≡ firstNo (numberQuestions takes (orderIn o)) ⌝ }
+{
+    match takes {
+        Takes::Code => 0,
+        Takes::Threshold => ask_threshold(o.d),
+        Takes::Everything => ask_degree(o.bits, o.m, o.d),
+    }
 }
 
 // Questions 8 and 9 of the first n of four generators.
@@ -142,6 +153,21 @@ fn ask_four(v: u64, n: usize, g1: u64, g2: u64, g3: u64, g4: u64) -> u64
     ask_generators(v, &all[..n])
 }
 
+// Questions 3 to 9, as far as the call takes them: the number of the first that says no, or 0.
+pub fn ask_order(takes: Takes, o: OrderRecord) -> u64
+    ensures { λ r. ⌜ r ≡ firstNo (orderQuestions takes (orderIn o)) ⌝ }
+{
+    let shape = ask_shape(o.n, o.v, o.bits);
+    if shape != 0 {
+        return shape;
+    }
+    let numbers = ask_numbers(takes, o);
+    if numbers != 0 {
+        return numbers;
+    }
+    ask_four(o.v, o.n as usize, o.g1, o.g2, o.g3, o.g4)
+}
+
 // The order that the bytes give, or the number of the first question that says no.
 pub fn read_order(bytes: &[u8]) -> Reading
     ensures { λ r. ⌜ r ≡ readingOf (read (now (bytes .entry))) ⌝ }
@@ -151,13 +177,9 @@ pub fn read_order(bytes: &[u8]) -> Reading
         return Reading::Refused(outside);
     }
     let o = fields(bytes);
-    let numbers = ask_numbers(o.v, o.bits, o.m, o.d);
-    if numbers != 0 {
-        return Reading::Refused(numbers);
-    }
-    let generators = ask_four(o.v, o.n as usize, o.g1, o.g2, o.g3, o.g4);
-    if generators != 0 {
-        return Reading::Refused(generators);
+    let inside = ask_order(Takes::Everything, o);
+    if inside != 0 {
+        return Reading::Refused(inside);
     }
     Reading::Order(o)
 }

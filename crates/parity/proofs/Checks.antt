@@ -12,7 +12,7 @@ use lib.ListN.{length, getD}
 use Rattle.lists.specs.Lists.{upFrom}
 use Rattle.lists.proofs.Lengths.{length-upFrom, getD-upFrom}
 use Rattle.lists.proofs.Scan.{all-fails, all-goes-on, all-end}
-use Rattle.parity.specs.Parity.{oddness, oddOfFour, even, evenFrom, allEven}
+use Rattle.parity.specs.Model.Parity.{oddness, oddOfFour, even, evenFrom, allEven}
 
 module _ (rows : List ℕ) (m low high : ℕ) where
   pub rows-all : evenFrom rows m 0 low high ≡ allEven rows m low high

@@ -24,7 +24,7 @@ use Rattle.poly.proofs.Sum.{for-bits, bit-lt, bit-⊕, ⊕-shifted}
 use Rattle.poly.proofs.Bits.{bit-zero, eq-by-bits, fromBits-lt, fromBits-last}
 use Rattle.poly.proofs.Remainder.{remainder-zero, remainder-⊕, remainder-lt}
 use Rattle.poly.proofs.Halves.{length-halves, getD-halves}
-use Rattle.parity.specs.Parity.{checkRow, checkTable, oddness, even, allEven}
+use Rattle.parity.specs.Model.Parity.{checkRow, checkTable, oddness, even, allEven}
 use Rattle.parity.proofs.Ones.{ones-⊕, ones-and-block, ones-and-digits, ones-and-none}
 
 -- ---- a row

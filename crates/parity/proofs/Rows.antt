@@ -16,7 +16,7 @@ use Rattle.poly.specs.Word.{halves}
 use Rattle.poly.proofs.Halves.{stored-halves}
 use Rattle.poly.proofs.Remainder.{remainder-small, remainder-double}
 use Rattle.poly.proofs.Shifts.{beside-fits, high-power}
-use Rattle.parity.specs.Parity.{checkRow, checkTable}
+use Rattle.parity.specs.Model.Parity.{checkRow, checkTable}
 use Rattle.parity.proofs.Divided.{row-more}
 
 -- ---- a bit above the others

@@ -1,1 +1,1 @@
-pub mod Parity
+pub mod Model

@@ -2,16 +2,15 @@
 // first row or two; a division would take a step for each bit.
 ghost use mathlib.Core.Path.{_≡_};
 ghost use Prim.Native.Nat.{_+_, _*_, _^_, _<_, _≤_};
-ghost use Rattle.poly.specs.Poly.{HasDegree};
 ghost use Rattle.poly.specs.Word.{number};
-ghost use Rattle.parity.specs.Parity.{checkRow, checkTable, oddness, oddOfFour, evenFrom, allEven};
+ghost use Rattle.parity.specs.Model.Parity.{checkRow, checkTable, oddness, oddOfFour, evenFrom, allEven, ToCheck, ToCheckRow, ToSetBit};
 use poly::register::times_x;
 use poly::word::Word;
 use poly::word::make;
 
 // The word with bit j set to b above the bits that it has.
 fn with_bit(w: Word, j: u64, b: u64) -> Word
-    requires { ⌜ (j < 128) × (b < 2) × (number w < 2 ^ j) ⌝ }
+    requires { ⌜ ToSetBit (number w) j b ⌝ }
     ensures { λ r. ⌜ number r ≡ b * 2 ^ j + number w ⌝ }
 {
     if j < 64 {
@@ -26,15 +25,15 @@ fn with_bit(w: Word, j: u64, b: u64) -> Word
     }
 }
 
-// Row i for words of n bits.
-fn check_row(n: u64, m: u64, p: u64, i: u64) -> Word
-    requires { ⌜ (n ≤ 128) × (1 ≤ m) × (m ≤ 12) × HasDegree m p × (i < 12) ⌝ }
-    ensures { λ r. ⌜ number r ≡ checkRow n m p i ⌝ }
+// Row i for words of so many bits.
+fn check_row(bits: u64, m: u64, p: u64, i: u64) -> Word
+    requires { ⌜ ToCheckRow bits m p i ⌝ }
+    ensures { λ r. ⌜ number r ≡ checkRow bits m p i ⌝ }
 {
     let mut row = make(0, 0);
     let mut power = 1;
     let mut j = 0;
-    while j < n {
+    while j < bits {
         row = with_bit(row, j, (power >> i) % 2);
         power = times_x(power, m, p);
         j += 1;
@@ -42,15 +41,15 @@ fn check_row(n: u64, m: u64, p: u64, i: u64) -> Word
     row
 }
 
-// The m rows for words of n bits, low half first.
-pub fn check_table(n: u64, m: u64, p: u64) -> [u64; 24]
-    requires { ⌜ (n ≤ 128) × (1 ≤ m) × (m ≤ 12) × HasDegree m p ⌝ }
-    ensures { λ r. ⌜ r ≡ checkTable n m p ⌝ }
+// The m rows for words of so many bits, low half first.
+pub fn check_table(bits: u64, m: u64, p: u64) -> [u64; 24]
+    requires { ⌜ ToCheck bits m p ⌝ }
+    ensures { λ r. ⌜ r ≡ checkTable bits m p ⌝ }
 {
     let mut rows = [0; 24];
     let mut i = 0;
     while i < m {
-        let row = check_row(n, m, p, i);
+        let row = check_row(bits, m, p, i);
         let at = 2 * i as usize;
         rows[at] = row.low;
         rows[at + 1] = row.high;

@@ -16,7 +16,7 @@ use Rattle.code.proofs.Loops.{Loop}
 use Rattle.code.proofs.Marks.{Marked, mark-exists, mark-unique-state, mark-unique-turn, marked-turn, mark-state-fits, mark-loop, mark-before-return, mark-turned-back, turn-injective}
 use Rattle.order.specs.Order.{Order}
 use Rattle.events.specs.Events.{ErrorEvent}
-use Rattle.paths.specs.Chains.{steps, cost, number, firstLength}
+use Rattle.paths.specs.Chains.{steps, cost, inputNumber, firstLength}
 use Rattle.paths.proofs.ChainLoops.{ChainOf, ChainFor, chain-loop, chain-meets, chain-weight, chain-unique, loop-chain}
 
 -- u is the chain c of events of i, turned by r, which is less than the first event's length
@@ -24,7 +24,7 @@ pub record Arises (o : Order) (i r : ℕ) (c : List ErrorEvent) (u : ℕ) : Type
   pub of-state : ChainOf o i c
   pub steps-are : steps c ≡ o .N
   pub inside : r < firstLength c
-  pub word-is : rotate (o .N) r (number c) ≡ u
+  pub word-is : rotate (o .N) r (inputNumber c) ≡ u
 
 -- the three parts of how a word arises
 pub record Origin (o : Order) (u : ℕ) : Type 0 where
@@ -36,7 +36,7 @@ pub record Origin (o : Order) (u : ℕ) : Type 0 where
 -- what the first event of a chain says
 record First (o : Order) (i : ℕ) (c : List ErrorEvent) : Type 0 where
   state-fits : i < 2 ^ o .v
-  meets : Meets (o .v) i (firstLength c) i (number c)
+  meets : Meets (o .v) i (firstLength c) i (inputNumber c)
   within : firstLength c ≤ steps c
 
 chain-first : (o : Order) (i r : ℕ) (c : List ErrorEvent) → ChainOf o i c → r < firstLength c → First o i c
@@ -58,8 +58,8 @@ module _ (o : Order) (some : 0 < o .N) (longer : o .v ≤ o .N) where
     pub arises-state-fits : i < 2 ^ o .v
     arises-state-fits = arises-first .state-fits
 
-    arises-loop : Loop (o .v) i (o .N) (number c)
-    arises-loop = subst (λ (k : ℕ). Loop (o .v) i k (number c)) (a .steps-are) (chain-loop o i c (a .of-state))
+    arises-loop : Loop (o .v) i (o .N) (inputNumber c)
+    arises-loop = subst (λ (k : ℕ). Loop (o .v) i k (inputNumber c)) (a .steps-are) (chain-loop o i c (a .of-state))
 
     pub arises-marked : Marked (o .v) (o .N) u i r
     arises-marked =
@@ -72,12 +72,12 @@ module _ (o : Order) (some : 0 < o .N) (longer : o .v ≤ o .N) where
     -- a loop from i that weighs what the word weighs
     pub arises-weight : Fit (o .v) (o .generators) → weight (o .N) (o .generators) u ≡ cost c
     arises-weight fit =
-        let first-state = closed⇔first-state (o .v) (o .N) (number c) i longer arises-state-fits .0 (arises-loop .closes) in
+        let first-state = closed⇔first-state (o .v) (o .N) (inputNumber c) i longer arises-state-fits .0 (arises-loop .closes) in
         ap (weight (o .N) (o .generators)) (sym (a .word-is))
-        ∙ weight-rotate (o .generators) (o .v) (o .N) r (number c) some longer (arises-loop .fits) fit
-        ∙ sym (walkWeight-word (o .generators) (o .v) (o .N) (number c) some longer (arises-loop .fits) fit)
-        ∙ ap (λ (s : ℕ). walkWeight (o .generators) (o .v) (o .N) s (number c)) (sym first-state)
-        ∙ ap (λ (k : ℕ). walkWeight (o .generators) (o .v) k i (number c)) (sym (a .steps-are))
+        ∙ weight-rotate (o .generators) (o .v) (o .N) r (inputNumber c) some longer (arises-loop .fits) fit
+        ∙ sym (walkWeight-word (o .generators) (o .v) (o .N) (inputNumber c) some longer (arises-loop .fits) fit)
+        ∙ ap (λ (s : ℕ). walkWeight (o .generators) (o .v) (o .N) s (inputNumber c)) (sym first-state)
+        ∙ ap (λ (k : ℕ). walkWeight (o .generators) (o .v) k i (inputNumber c)) (sym (a .steps-are))
         ∙ chain-weight o i c (a .of-state)
 
   -- ---- in one way only
@@ -89,11 +89,11 @@ module _ (o : Order) (some : 0 < o .N) (longer : o .v ≤ o .N) where
     pub arises-once-turn : r ≡ r′
     arises-once-turn = mark-unique-turn (o .v) (o .N) u (arises-marked a) (arises-marked a′)
 
-    arises-once-number : number c ≡ number c′
+    arises-once-number : inputNumber c ≡ inputNumber c′
     arises-once-number =
         let inside = arises-marked a .inside in
-        turn-injective (o .v) (o .N) some longer r (number c) (number c′) (omega arith) (arises-loop a .fits) (arises-loop a′ .fits)
-        (a .word-is ∙ sym (a′ .word-is) ∙ ap (λ (x : ℕ). rotate (o .N) x (number c′)) (sym arises-once-turn))
+        turn-injective (o .v) (o .N) some longer r (inputNumber c) (inputNumber c′) (omega arith) (arises-loop a .fits) (arises-loop a′ .fits)
+        (a .word-is ∙ sym (a′ .word-is) ∙ ap (λ (x : ℕ). rotate (o .N) x (inputNumber c′)) (sym arises-once-turn))
 
     pub arises-once-chain : c ≡ c′
     arises-once-chain =
@@ -104,7 +104,7 @@ module _ (o : Order) (some : 0 < o .N) (longer : o .v ≤ o .N) where
 
   -- a chain of a loop that comes back after place r
   begins-late : (i r : ℕ) (c : List ErrorEvent) → ChainOf o i c → steps c ≡ o .N
-      → ((l : ℕ) → l ≤ o .N → Meets (o .v) i l i (number c) → r < l) → r < firstLength c
+      → ((l : ℕ) → l ≤ o .N → Meets (o .v) i l i (inputNumber c) → r < l) → r < firstLength c
   unfolding firstLength steps
   begins-late i r [] h s late = absurd (omega arith)
   begins-late i r (e ∷ c) h s late = late (e .length) (omega arith) (chain-meets o i e c h)

@@ -19,7 +19,7 @@ use Rattle.code.proofs.Loops.{Loop, loop-empty, loop-join, joint-meets, loop-re
 use Rattle.order.specs.Order.{Order}
 use Rattle.events.specs.Events.{ErrorEvent}
 use Rattle.events.proofs.OfState.{EventOf}
-use Rattle.paths.specs.Chains.{steps, cost, number}
+use Rattle.paths.specs.Chains.{steps, cost, inputNumber}
 
 -- every event of c is an event of state i
 abbrev pub ChainOf : Order → ℕ → List ErrorEvent → Type 0
@@ -44,30 +44,30 @@ module _ (o : Order) (i : ℕ) where
 
   -- ---- from chains to loops
 
-  pub chain-loop : (c : List ErrorEvent) → ChainOf o i c → Loop (o .v) i (steps c) (number c)
-  unfolding steps number
+  pub chain-loop : (c : List ErrorEvent) → ChainOf o i c → Loop (o .v) i (steps c) (inputNumber c)
+  unfolding steps inputNumber
   chain-loop [] h = loop-empty (o .v) i
   chain-loop (e ∷ c) h =
       let first = h e (List·Memᴰ·head refl) in
-      loop-join (o .v) i (e .length) (steps c) (e .input) (number c) (event-meets e first) (first .event .input-fits) (chain-loop c (λ f m. h f (List·Memᴰ·tail m)))
+      loop-join (o .v) i (e .length) (steps c) (e .input) (inputNumber c) (event-meets e first) (first .event .input-fits) (chain-loop c (λ f m. h f (List·Memᴰ·tail m)))
 
-  pub chain-meets : (e : ErrorEvent) (c : List ErrorEvent) → ChainOf o i (e ∷ c) → Meets (o .v) i (e .length) i (number (e ∷ c))
-  unfolding number
-  chain-meets e c h = joint-meets (o .v) i (e .length) (steps c) (e .input) (number c) (event-meets e (h e (List·Memᴰ·head refl)))
+  pub chain-meets : (e : ErrorEvent) (c : List ErrorEvent) → ChainOf o i (e ∷ c) → Meets (o .v) i (e .length) i (inputNumber (e ∷ c))
+  unfolding inputNumber
+  chain-meets e c h = joint-meets (o .v) i (e .length) (steps c) (e .input) (inputNumber c) (event-meets e (h e (List·Memᴰ·head refl)))
 
-  pub chain-weight : (c : List ErrorEvent) → ChainOf o i c → walkWeight (o .generators) (o .v) (steps c) i (number c) ≡ cost c
-  unfolding steps number cost walkWeight
+  pub chain-weight : (c : List ErrorEvent) → ChainOf o i c → walkWeight (o .generators) (o .v) (steps c) i (inputNumber c) ≡ cost c
+  unfolding steps inputNumber cost walkWeight
   chain-weight [] h = refl
   chain-weight (e ∷ c) h =
       let first = h e (List·Memᴰ·head refl) in
-      walkWeight-high (o .v) (e .length) (e .input) (number c) (first .event .input-fits) (o .generators) (steps c) i
+      walkWeight-high (o .v) (e .length) (e .input) (inputNumber c) (first .event .input-fits) (o .generators) (steps c) i
       ∙ ap₂ _+_ (event-weighs e first)
-      (ap (λ (s : ℕ). walkWeight (o .generators) (o .v) (steps c) s (number c)) (event-meets e first .arrives) ∙ chain-weight c (λ f m. h f (List·Memᴰ·tail m)))
+      (ap (λ (s : ℕ). walkWeight (o .generators) (o .v) (steps c) s (inputNumber c)) (event-meets e first .arrives) ∙ chain-weight c (λ f m. h f (List·Memᴰ·tail m)))
 
   -- ---- a loop is the loop of one chain
 
-  pub chain-unique : (c c′ : List ErrorEvent) → ChainOf o i c → ChainOf o i c′ → steps c ≡ steps c′ → number c ≡ number c′ → c ≡ c′
-  unfolding steps number
+  pub chain-unique : (c c′ : List ErrorEvent) → ChainOf o i c → ChainOf o i c′ → steps c ≡ steps c′ → inputNumber c ≡ inputNumber c′ → c ≡ c′
+  unfolding steps inputNumber
   chain-unique [] [] h h′ s n = refl
   chain-unique [] (f ∷ d) h h′ s n = absurd (omega (arith, h′ f (List·Memᴰ·head refl) .event .some-step))
   chain-unique (e ∷ c) [] h h′ s n = absurd (omega (arith, h e (List·Memᴰ·head refl) .event .some-step))
@@ -76,16 +76,16 @@ module _ (o : Order) (i : ℕ) where
       let first′ = h′ f (List·Memᴰ·head refl) in
       let meets = chain-meets e c h in
       let meets′ = subst (Meets (o .v) i (f .length) i) (sym n) (chain-meets f d h′) in
-      let l : e .length ≡ f .length = meets-unique (o .v) i (e .length) (f .length) i (number c * 2 ^ e .length + e .input) meets meets′ in
+      let l : e .length ≡ f .length = meets-unique (o .v) i (e .length) (f .length) i (inputNumber c * 2 ^ e .length + e .input) meets meets′ in
       let fit = first .event .input-fits in
       let fit′ = first′ .event .input-fits in
-      let n′ : number c * 2 ^ e .length + e .input ≡ number d * 2 ^ e .length + f .input =
-      n ∙ ap (λ (x : ℕ). number d * 2 ^ x + f .input) (sym l) in
+      let n′ : inputNumber c * 2 ^ e .length + e .input ≡ inputNumber d * 2 ^ e .length + f .input =
+      n ∙ ap (λ (x : ℕ). inputNumber d * 2 ^ x + f .input) (sym l) in
       let fit″ : f .input < 2 ^ e .length = subst (λ (x : ℕ). f .input < 2 ^ x) (sym l) fit′ in
       let inputs : e .input ≡ f .input =
-      sym (low (number c) (e .length) fit) ∙ ap (λ (x : ℕ). x % 2 ^ e .length) n′ ∙ low (number d) (e .length) fit″ in
-      let rests : number c ≡ number d =
-      sym (high (number c) (e .length) fit) ∙ ap (λ (x : ℕ). x / 2 ^ e .length) n′ ∙ high (number d) (e .length) fit″ in
+      sym (low (inputNumber c) (e .length) fit) ∙ ap (λ (x : ℕ). x % 2 ^ e .length) n′ ∙ low (inputNumber d) (e .length) fit″ in
+      let rests : inputNumber c ≡ inputNumber d =
+      sym (high (inputNumber c) (e .length) fit) ∙ ap (λ (x : ℕ). x / 2 ^ e .length) n′ ∙ high (inputNumber d) (e .length) fit″ in
       ap₂ _∷_ (same-event o i e f first first′ l inputs)
       (chain-unique c d (λ x m. h x (List·Memᴰ·tail m)) (λ x m. h′ x (List·Memᴰ·tail m)) (omega arith) rests)
 
@@ -96,7 +96,7 @@ module _ (o : Order) (i : ℕ) where
     pub events : List ErrorEvent
     pub of-state : ChainOf o i events
     pub steps-are : steps events ≡ k
-    pub number-is : number events ≡ c
+    pub number-is : inputNumber events ≡ c
 
   module _ (state : i < 2 ^ o .v) where
     -- the first return of a loop, as an event
@@ -139,7 +139,7 @@ module _ (o : Order) (i : ℕ) where
       rest-light = omega (arith, weights)
 
       before : ChainFor k (c / 2 ^ l) → ChainFor (l + k) c
-      unfolding steps number
+      unfolding steps inputNumber
       before r = record {
         events = firstEvent ∷ r .events;
         of-state = λ e m. ⊎-elim (λ p. subst (EventOf o i) (sym p) firstEvent-of) (r .of-state e) (List·Memᴰ·cases-cons m);
@@ -151,7 +151,7 @@ module _ (o : Order) (i : ℕ) where
     chain-step : (k c : ℕ)
         → ((k′ c′ : ℕ) → k′ < k → k′ ≤ o .N → Loop (o .v) i k′ c′ → walkWeight (o .generators) (o .v) k′ i c′ < o .d → ChainFor k′ c′)
         → k ≤ o .N → Loop (o .v) i k c → walkWeight (o .generators) (o .v) k i c < o .d → ChainFor k c
-    unfolding steps number
+    unfolding steps inputNumber
     chain-step zero c shorter g loop light =
         record { events = []; of-state = λ e m. absurd (List·Memᴰ·not-nil m); steps-are = refl; number-is = sym (lt-one (loop .fits)) }
     chain-step (suc k) c shorter g loop light =

@@ -1,4 +1,4 @@
--- The chains that the recursion of `specs/Chains.antt` meets, as a list: its members are the lists of events that fill the steps left and the
+-- The chains that the recursion of `specs/Model/Joining.antt` meets, as a list: its members are the lists of events that fill the steps left and the
 -- weight left (`of-chains`, `in-chains`), and none stands twice (`chains-distinct`).
 -- Assumes nothing.
 use Prim.Native.Nat.{ℕ, zero, suc, _-_, _≤_, _<_}
@@ -15,7 +15,8 @@ use Rattle.lists.proofs.Blocks.{flatMap-sorted-on}
 use Rattle.lists.proofs.Distinct.{Distinct}
 use Rattle.lists.proofs.Choices.{eqb-passes, eqb-fails, mem-choice, of-guarded, in-first, in-second, guarded-sorted, choice-sorted}
 use Rattle.events.specs.Events.{ErrorEvent}
-use Rattle.paths.specs.Chains.{steps, cost, fitsIn}
+use Rattle.paths.specs.Chains.{steps, cost}
+use Rattle.paths.specs.Model.Joining.{fitsIn}
 
 -- ---- the list
 

@@ -1,4 +1,4 @@
--- The recursion of `specs/Chains.antt` emits, chain by chain, the rotations of the chains that `Chains.antt` lists (`joined-is-chains`).
+-- The recursion of `specs/Model/Joining.antt` emits, chain by chain, the rotations of the chains that `Chains.antt` lists (`joined-is-chains`).
 -- Assumes nothing.
 use Prim.Native.Nat.{ℕ, zero, suc, _+_, _-_, _*_, _^_, _≤_}
 use native.Mathlib.Nat.{zero-add, zero-mul, mul-assoc, add-mul}
@@ -11,12 +11,13 @@ use lib.Pow.{pow-add}
 use Rattle.lists.proofs.Blocks.{flatMap-one, flatMap-none, flatMap-cong-on, flatMap-flatMap, flatMap-map}
 use Rattle.lists.proofs.Choices.{cond-cong-on, flatMap-cond}
 use Rattle.events.specs.Events.{ErrorEvent}
-use Rattle.paths.specs.Chains.{number, firstLength, turns, firstOr, fitsIn, joining, joined}
+use Rattle.paths.specs.Chains.{inputNumber, firstLength}
+use Rattle.paths.specs.Model.Joining.{turns, firstOr, fitsIn, joining, joined}
 use Rattle.paths.proofs.Chains.{chaining, chains, fits-parts}
 
 -- what the recursion emits for a chain c of the `left` last steps, where it had joined `acc` before
 unfoldable pub emit : ℕ → ℕ → ℕ → ℕ → List ErrorEvent → List ℕ
-emit N left acc first c = turns N (firstOr first (firstLength c)) (acc + number c * 2 ^ (N - left))
+emit N left acc first c = turns N (firstOr first (firstLength c)) (acc + inputNumber c * 2 ^ (N - left))
 
 -- the first event's length stays
 firstOr-again : (first l x : ℕ) → 1 ≤ l → firstOr (firstOr first l) x ≡ firstOr first l
@@ -36,16 +37,16 @@ joint-number N left l acc a n h g =
 
 module _ (N : ℕ) where
   emit-one : (left acc first : ℕ) (e : ErrorEvent) → turns N (firstOr first (e .length)) (acc + e .input * 2 ^ (N - left)) ≡ emit N left acc first (e ∷ [])
-  unfolding emit number firstLength
+  unfolding emit inputNumber firstLength
   emit-one left acc first e =
       ap (λ (x : ℕ). turns N (firstOr first (e .length)) (acc + x * 2 ^ (N - left)))
       (sym (ap (λ (x : ℕ). x + e .input) (zero-mul (2 ^ e .length)) ∙ zero-add (e .input)))
 
   emit-more : (left acc first : ℕ) (e : ErrorEvent) (c : List ErrorEvent) → 1 ≤ e .length → e .length ≤ left → left ≤ N
       → emit N (left - e .length) (acc + e .input * 2 ^ (N - left)) (firstOr first (e .length)) c ≡ emit N left acc first (e ∷ c)
-  unfolding emit number firstLength
+  unfolding emit inputNumber firstLength
   emit-more left acc first e c h g k =
-      ap₂ (turns N) (firstOr-again first (e .length) (firstLength c) h) (joint-number N left (e .length) acc (e .input) (number c) g k)
+      ap₂ (turns N) (firstOr-again first (e .length) (firstLength c) h) (joint-number N left (e .length) acc (e .input) (inputNumber c) g k)
 
   module _ (more : ℕ → ℕ → ℕ → ℕ → List ℕ) (lists : ℕ → ℕ → List (List ErrorEvent))
       (same : (left acc first budget : ℕ) → left ≤ N → more left acc first budget ≡ flatMap (emit N left acc first) (lists left budget))

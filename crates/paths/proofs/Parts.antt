@@ -14,7 +14,8 @@ use lib.ListN.{length, getD, take, drop}
 use Rattle.lists.specs.Lists.{sum}
 use Rattle.lists.proofs.Sums.{sum-last}
 use Rattle.lists.proofs.Tests.{and-yes, and-no}
-use Rattle.paths.specs.Part.{pathsBefore, beforeOr, partFits, partOf, partNumber}
+use Rattle.paths.specs.Part.{pathsBefore, partFits, partOf, partNumber}
+use Rattle.paths.specs.Model.Part.{beforeOr}
 
 -- ---- the paths before a weight
 

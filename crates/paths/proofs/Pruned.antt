@@ -7,7 +7,8 @@ use mathlib.Core.List.{List, [], _∷_, flatMap, List·Memᴰ, List·Memᴰ·hea
 use Rattle.lists.proofs.Sorted.{Within}
 use Rattle.lists.proofs.Blocks.{nil-of-no-member, flatMap-none}
 use Rattle.events.specs.Events.{ErrorEvent}
-use Rattle.paths.specs.Chains.{steps, cost, joined}
+use Rattle.paths.specs.Chains.{steps, cost}
+use Rattle.paths.specs.Model.Joining.{joined}
 use Rattle.paths.proofs.Chains.{Fills, chains, of-chains}
 use Rattle.paths.proofs.Joined.{emit, joined-is-chains}
 

@@ -1,4 +1,4 @@
--- What the recursion of `specs/Chains.antt` emits over all states is the nonzero words of weight w, for w below the threshold: these and no others
+-- What the recursion of `specs/Model/Joining.antt` emits over all states is the nonzero words of weight w, for w below the threshold: these and no others
 -- (`mem-chainWords`), each once (`chainWords-distinct`). So, sorted by number, it is the definition's list (`sorted-chainWords`), and it is as long as
 -- the plain count says (`length-chainWords`).
 -- Assumes nothing.
@@ -23,7 +23,8 @@ use Rattle.order.specs.Order.{Order}
 use Rattle.events.specs.Events.{ErrorEvent, eventsOfState}
 use Rattle.events.proofs.OfState.{of-eventsOfState, in-eventsOfState, eventsOfState-distinct}
 use Rattle.paths.specs.Paths.{wordsOfWeight, weights, paths, plainCounts}
-use Rattle.paths.specs.Chains.{cost, number, firstLength, turns, firstOr, stateWords, chainWords}
+use Rattle.paths.specs.Chains.{cost, inputNumber, firstLength}
+use Rattle.paths.specs.Model.Joining.{turns, firstOr, stateWords, chainWords}
 use Rattle.paths.proofs.Listed.{mem-words, of-wordsOfWeight, in-wordsOfWeight, wordsOfWeight-sorted, mem-weights, plain-count-at}
 use Rattle.paths.proofs.Chains.{chains, of-chains, in-chains, chains-distinct}
 use Rattle.paths.proofs.Joined.{emit, joined-is-chains}
@@ -54,17 +55,17 @@ module _ (o : Order) (some : 0 < o .N) (longer : o .v ≤ o .N) where
     event-some-step e m = of-eventsOfState o i state m .event .some-step
 
     -- chain by chain
-    pub stateWords-is-chains : stateWords o i w ≡ flatMap (λ c. turns (o .N) (firstLength c) (number c)) (chains (o .N) (eventsOfState o i) (o .N) w)
+    pub stateWords-is-chains : stateWords o i w ≡ flatMap (λ c. turns (o .N) (firstLength c) (inputNumber c)) (chains (o .N) (eventsOfState o i) (o .N) w)
     unfolding stateWords emit firstOr
     stateWords-is-chains =
         let whole : (n : ℕ) → 0 + n * 2 ^ (o .N - o .N) ≡ n =
         λ n. zero-add (n * 2 ^ (o .N - o .N)) ∙ ap (λ (x : ℕ). n * 2 ^ x) (sub-self (o .N)) ∙ mul-one n in
         joined-is-chains (o .N) (eventsOfState o i) event-some-step (o .N) (o .N) 0 0 w (omega arith)
-        ∙ flatMap-cong-on (emit (o .N) (o .N) 0 0) (λ c. turns (o .N) (firstLength c) (number c)) (chains (o .N) (eventsOfState o i) (o .N) w)
-        (λ c _. ap (turns (o .N) (firstLength c)) (whole (number c)))
+        ∙ flatMap-cong-on (emit (o .N) (o .N) 0 0) (λ c. turns (o .N) (firstLength c) (inputNumber c)) (chains (o .N) (eventsOfState o i) (o .N) w)
+        (λ c _. ap (turns (o .N) (firstLength c)) (whole (inputNumber c)))
 
     arises-of-turn : (c : List ErrorEvent) {r u : ℕ} → List·Memᴰ c (chains (o .N) (eventsOfState o i) (o .N) w) → r < firstLength c
-        → rotate (o .N) r (number c) ≡ u → Arises o i r c u
+        → rotate (o .N) r (inputNumber c) ≡ u → Arises o i r c u
     arises-of-turn c m h e =
         let f = of-chains (eventsOfState o i) (o .N) (o .N) w c m in
         record { of-state = λ x n. of-eventsOfState o i state (f .from x n); steps-are = f .steps-are; inside = h; word-is = e }
@@ -73,9 +74,9 @@ module _ (o : Order) (some : 0 < o .N) (longer : o .v ≤ o .N) where
         → (1 ≤ u) × ((r : ℕ) × (c : List ErrorEvent) × Arises o i r c u × (cost c ≡ w))
     of-stateWords {u} m =
         let h =
-        of-flatMap (λ c. turns (o .N) (firstLength c) (number c)) (chains (o .N) (eventsOfState o i) (o .N) w)
+        of-flatMap (λ c. turns (o .N) (firstLength c) (inputNumber c)) (chains (o .N) (eventsOfState o i) (o .N) w)
         (subst (List·Memᴰ u) stateWords-is-chains m) in
-        let t = of-turns (o .N) (firstLength (h .0)) (number (h .0)) (h .2) in
+        let t = of-turns (o .N) (firstLength (h .0)) (inputNumber (h .0)) (h .2) in
         (t .0, (t .1 .0, h .0, arises-of-turn (h .0) (h .1) (t .1 .1) (t .1 .2), of-chains (eventsOfState o i) (o .N) (o .N) w (h .0) (h .1) .cost-is))
 
     listed-chain : (r u : ℕ) (c : List ErrorEvent) → Arises o i r c u → cost c ≡ w → List·Memᴰ c (chains (o .N) (eventsOfState o i) (o .N) w)
@@ -88,14 +89,14 @@ module _ (o : Order) (some : 0 < o .N) (longer : o .v ≤ o .N) where
     pub in-stateWords : {r u : ℕ} {c : List ErrorEvent} → 1 ≤ u → Arises o i r c u → cost c ≡ w → List·Memᴰ u (stateWords o i w)
     in-stateWords {r} {u} {c} nonzero a e =
         subst (List·Memᴰ u) (sym stateWords-is-chains)
-        (in-flatMap (λ c. turns (o .N) (firstLength c) (number c)) (chains (o .N) (eventsOfState o i) (o .N) w) (listed-chain r u c a e)
-        (in-turns (o .N) (firstLength c) (number c) r nonzero (a .inside) (a .word-is)))
+        (in-flatMap (λ c. turns (o .N) (firstLength c) (inputNumber c)) (chains (o .N) (eventsOfState o i) (o .N) w) (listed-chain r u c a e)
+        (in-turns (o .N) (firstLength c) (inputNumber c) r nonzero (a .inside) (a .word-is)))
 
-    turns-distinct : (c : List ErrorEvent) → List·Memᴰ c (chains (o .N) (eventsOfState o i) (o .N) w) → Distinct (turns (o .N) (firstLength c) (number c))
+    turns-distinct : (c : List ErrorEvent) → List·Memᴰ c (chains (o .N) (eventsOfState o i) (o .N) w) → Distinct (turns (o .N) (firstLength c) (inputNumber c))
     unfolding turns
     turns-distinct c m =
-        filter-sorted (λ x y. x ≢ y) (λ u. ltb 0 u) (map (λ r. rotate (o .N) r (number c)) (upFrom 0 (firstLength c)))
-        (map-distinct-on (λ r. rotate (o .N) r (number c)) (upFrom 0 (firstLength c))
+        filter-sorted (λ x y. x ≢ y) (λ u. ltb 0 u) (map (λ r. rotate (o .N) r (inputNumber c)) (upFrom 0 (firstLength c)))
+        (map-distinct-on (λ r. rotate (o .N) r (inputNumber c)) (upFrom 0 (firstLength c))
         (increasing-distinct (upFrom 0 (firstLength c)) (upFrom-sorted 0 (firstLength c)))
         (λ r q k l e.
         let b = upFrom-bounds 0 (firstLength c) k in
@@ -105,11 +106,11 @@ module _ (o : Order) (some : 0 < o .N) (longer : o .v ≤ o .N) where
     pub stateWords-distinct : Distinct (stateWords o i w)
     stateWords-distinct =
         subst Distinct (sym stateWords-is-chains)
-        (flatMap-sorted-on (λ x y. x ≢ y) (λ x y. x ≢ y) (λ c. turns (o .N) (firstLength c) (number c)) (chains (o .N) (eventsOfState o i) (o .N) w)
+        (flatMap-sorted-on (λ x y. x ≢ y) (λ x y. x ≢ y) (λ c. turns (o .N) (firstLength c) (inputNumber c)) (chains (o .N) (eventsOfState o i) (o .N) w)
         (chains-distinct (eventsOfState o i) (eventsOfState-distinct o i) (o .N) (o .N) w) turns-distinct
         (λ c c′ m m′ n u u′ k k′ e.
-        let t = of-turns (o .N) (firstLength c) (number c) k .1 in
-        let t′ = of-turns (o .N) (firstLength c′) (number c′) k′ .1 in
+        let t = of-turns (o .N) (firstLength c) (inputNumber c) k .1 in
+        let t′ = of-turns (o .N) (firstLength c′) (inputNumber c′) k′ .1 in
         n (arises-once-chain o some longer (arises-of-turn c m (t .1) (t .2)) (arises-of-turn c′ m′ (t′ .1) (t′ .2 ∙ sym e)))))
 
   -- ---- all states
@@ -136,7 +137,7 @@ module _ (o : Order) (some : 0 < o .N) (longer : o .v ≤ o .N) where
           let h = of-flatMap (λ i. stateWords o i w) (upFrom 0 (2 ^ o .v)) m in
           let k = of-stateWords (h .0) w (state-bound (h .1)) (h .2) in
           let a = k .1 .2 in
-          let fits = subst (λ x. x < 2 ^ o .N) (a .word-is) (rotate-lt (o .N) (k .1 .0) (number (k .1 .1))) in
+          let fits = subst (λ x. x < 2 ^ o .N) (a .word-is) (rotate-lt (o .N) (k .1 .0) (inputNumber (k .1 .1))) in
           (k .0, fits, arises-weight o some longer a fit ∙ k .1 .3)
 
       module _ (light : w < o .d) where

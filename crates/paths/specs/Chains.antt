@@ -1,16 +1,15 @@
--- What the recursion computes (the model, level 2): it joins events of one state until their lengths sum to N, and emits the rotations of what it
--- joined. `proofs/Words.antt` joins the model to the definitions: what it emits over all states is the nonzero words of weight w, each once.
+-- Chains of error events (document 01: events joined one after another until the lengths sum to N), and what the theorem of document 000 says of a
+-- word: it is, in one way only, a chain of events of its smallest state, begun so that place 0 lies inside the first event.
+-- `proofs/Theorem.antt` proves it (`made-of-events`, `one-state`, `one-back`, `one-chain`). Paths and counts are defined without it.
 -- Assumes nothing.
-use Prim.Native.Nat.{ℕ, zero, suc, _+_, _-_, _*_, _^_}
-use mathlib.Core.Bool.{Bool, cond, _&&_}
-use mathlib.Core.List.{List, [], _∷_, map, flatMap}
-use lib.Dec.{leb, ltb, eqb}
-use Rattle.lists.specs.Lists.{upFrom, filter}
-use Rattle.code.specs.Trellis.{rotate}
+use Prim.Native.Nat.{ℕ, _+_, _-_, _*_, _^_, _≤_, _<_}
+use mathlib.Core.Path.{_≡_}
+use mathlib.Core.Logic.{_≢_}
+use mathlib.Core.List.{List, [], _∷_, List·Memᴰ}
+use Rattle.code.specs.Weight.{weight}
+use Rattle.code.specs.Trellis.{stateAt, rotate}
 use Rattle.order.specs.Order.{Order}
 use Rattle.events.specs.Events.{ErrorEvent, eventsOfState}
-
--- ---- chains: events one after another
 
 -- how many steps
 unfoldable pub steps : List ErrorEvent → ℕ
@@ -23,51 +22,31 @@ cost [] = 0
 cost (e ∷ es) = e .weight + cost es
 
 -- the inputs of all steps as one number, the first input as bit 0
-unfoldable pub number : List ErrorEvent → ℕ
-number [] = 0
-number (e ∷ es) = number es * 2 ^ e .length + e .input
+unfoldable pub inputNumber : List ErrorEvent → ℕ
+inputNumber [] = 0
+inputNumber (e ∷ es) = inputNumber es * 2 ^ e .length + e .input
 
 -- the length of the first event
 unfoldable pub firstLength : List ErrorEvent → ℕ
 firstLength [] = 0
 firstLength (e ∷ es) = e .length
 
--- ---- the recursion
-
--- the word c begun 0, 1, .., first - 1 steps later, without the zero word
-unfoldable pub turns : ℕ → ℕ → ℕ → List ℕ
-turns N first c = filter (λ u. ltb 0 u) (map (λ r. rotate N r c) (upFrom 0 first))
-
--- the length of the first event, once there is one
-unfoldable pub firstOr : ℕ → ℕ → ℕ
-firstOr zero l = l
-firstOr (suc first) l = suc first
-
--- an event fits into the steps and the weight that are left
-unfoldable pub fitsIn : ℕ → ℕ → ErrorEvent → Bool
-fitsIn left budget e = leb (e .length) left && leb (e .weight) budget
-
--- what joining event e makes: nothing if it does not fit, the rotations if it is the last, or else what `more` makes of the steps left,
--- the number joined so far, the first event's length and the weight left
-unfoldable pub joining : ℕ → (ℕ → ℕ → ℕ → ℕ → List ℕ) → ℕ → ℕ → ℕ → ℕ → ErrorEvent → List ℕ
-joining N more left acc first budget e =
-    let c = acc + e .input * 2 ^ (N - left) in
-    let first′ = firstOr first (e .length) in
-    let rest = more (left - e .length) c first′ (budget - e .weight) in
-    let last = cond (eqb (e .weight) budget) (turns N first′ c) [] in
-    let whole = cond (eqb (e .length) left) last rest in
-    cond (fitsIn left budget e) whole []
-
--- Every way to fill `left` more steps by events of weight `budget` in all. `acc` is the number joined so far, `first` the length of the first
--- event, 0 before there is one.
-unfoldable pub joined : ℕ → List ErrorEvent → ℕ → ℕ → ℕ → ℕ → ℕ → List ℕ
-joined zero es N left acc first budget = []
-joined (suc fuel) es N left acc first budget = flatMap (joining N (joined fuel es N) left acc first budget) es
-
--- the words of weight w whose smallest state is i
-unfoldable pub stateWords : Order → ℕ → ℕ → List ℕ
-stateWords o i w = joined (o .N) (eventsOfState o i) (o .N) (o .N) 0 0 w
-
--- the nonzero words of weight w, in the order in which the recursion meets them
-unfoldable pub chainWords : Order → ℕ → List ℕ
-chainWords o w = flatMap (λ i. stateWords o i w) (upFrom 0 (2 ^ o .v))
+-- how word u is made of error events
+pub record MadeOfEvents (o : Order) (u : ℕ) : Type 0 where
+  -- the smallest state on the word's walk
+  pub state : ℕ
+  pub state-fits : state < 2 ^ o .v
+  pub smallest : (t : ℕ) → state ≤ stateAt (o .v) (o .N) u t
+  -- how many steps back from place 0 (which is place N) the walk is at that state for the first time
+  pub back : ℕ
+  pub back-fits : back < o .N
+  pub visits : stateAt (o .v) (o .N) u (o .N - back) ≡ state
+  pub none-between : (t : ℕ) → o .N - back < t → t ≤ o .N → stateAt (o .v) (o .N) u t ≢ state
+  -- the events from there on, N steps in all, place 0 inside the first
+  pub chain : List ErrorEvent
+  pub from-table : (e : ErrorEvent) → List·Memᴰ e chain → List·Memᴰ e (eventsOfState o state)
+  pub steps-are : steps chain ≡ o .N
+  pub place-zero-inside : back < firstLength chain
+  -- the word is the chain's input number begun `back` steps later, and weighs what the events weigh
+  pub word-is : rotate (o .N) back (inputNumber chain) ≡ u
+  pub weight-is : weight (o .N) (o .generators) u ≡ cost chain

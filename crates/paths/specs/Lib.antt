@@ -1,3 +1,4 @@
 pub mod Paths
 pub mod Part
 pub mod Chains
+pub mod Model

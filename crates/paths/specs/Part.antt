@@ -11,10 +11,6 @@ use Rattle.lists.specs.Lists.{sum}
 unfoldable pub pathsBefore : List ℕ → ℕ → ℕ
 pathsBefore counts w = sum w (λ k. getD counts k 0)
 
--- the same up to a limit, and one more than the limit past it (what the code computes)
-unfoldable pub beforeOr : List ℕ → ℕ → ℕ → ℕ
-beforeOr counts w limit = cond (leb (pathsBefore counts w) limit) (pathsBefore counts w) (limit + 1)
-
 -- the weight has a count, and its part ends within the table
 unfoldable pub partFits : List ℕ → ℕ → List ℕ → Bool
 partFits counts w table = ltb w (length counts) && leb (2 * (pathsBefore counts w + getD counts w 0)) (length table)

@@ -1,13 +1,14 @@
 -- Division a bit at a time, from the highest: the remainder of the word without its i lowest bits, and then without i - 1 of them.
 -- Assumes nothing.
 use mathlib.Core.Path.{_≡_, sym, ap, _∙_}
-use Prim.Native.Nat.{ℕ, zero, suc, _-_, _*_, _/_, _%_, _^_, _≤_, _<_}
-use native.Mathlib.Nat.{not-suc-le-zero, div-eq-of-lt, div-one, div-div-eq-div-mul, div-lt-iff-lt-mul, pow-suc, le-of-eq}
+use Prim.Native.Nat.{ℕ, zero, suc, _+_, _-_, _*_, _/_, _%_, _^_, _≤_, _<_}
+use native.Mathlib.Nat.{mod-eq-of-lt, not-suc-le-zero, div-eq-of-lt, div-one, div-div-eq-div-mul, div-lt-iff-lt-mul, pow-suc, le-of-eq}
 use native.Mathlib.Numerals.{sub-one}
 use native.Mathlib.Omega.{arith}
 use lib.Pow.{pow-pos, pow-mono}
-use Rattle.poly.specs.Poly.{bit, HasDegree, register, remainder}
-use Rattle.poly.proofs.Remainder.{remainder-zero, remainder-step, remainder-lt}
+use Rattle.poly.specs.Poly.{bit, _⊕_, HasDegree, register, remainder}
+use Rattle.poly.specs.Model.Asked.{Modulus}
+use Rattle.poly.proofs.Remainder.{push-top, remainder-zero, remainder-step, remainder-lt}
 
 -- no bits yet
 pub divided-none : (m p u n : ℕ) → u < 2 ^ n → 0 ≡ remainder m p (u / 2 ^ n)
@@ -27,18 +28,24 @@ divided-more m p u (suc i) h =
     ∙ sym (remainder-step m p (u / 2 ^ i))
     ∙ ap (λ (x : ℕ). remainder m p (u / 2 ^ x)) (sym (sub-one (suc i)))
 
+-- what stands from bit m on is one digit, so the register's step needs no test of it
+pub register-of-remainder : (m p r b : ℕ) → r < 2 ^ m → b < 2 → (2 * r + b) ⊕ ((2 * r + b) / 2 ^ m * p) ≡ register m p r b
+unfolding register bit
+register-of-remainder m p r b h d = ap (λ (x : ℕ). (2 * r + b) ⊕ (x * p)) (sym (mod-eq-of-lt (push-top m r b h d)))
+
 -- the register's numbers stay small: degree at most 12
-pub polynomial-small : (m p : ℕ) → m ≤ 12 → HasDegree m p → p < 2 ^ 32
-polynomial-small m p h d =
-    let q : p < 2 * 2 ^ m = div-lt-iff-lt-mul (pow-pos m) .0 (le-of-eq (ap suc d)) in
-    let s : 2 ^ m ≤ 2 ^ 12 = pow-mono h in
+pub polynomial-small : {m p : ℕ} → Modulus m p → p < 2 ^ 32
+polynomial-small {m} {p} by =
+    let q : p < 2 * 2 ^ m = div-lt-iff-lt-mul (pow-pos m) .0 (le-of-eq (ap suc (by .degree))) in
+    let s : 2 ^ m ≤ 2 ^ 12 = pow-mono (by .at-most-12) in
     omega arith
 
-pub remainder-small-number : (m p u : ℕ) → m ≤ 12 → HasDegree m p → remainder m p u < 2 ^ 32
-remainder-small-number m p u h d = let s : 2 ^ m ≤ 2 ^ 12 = pow-mono h in omega (arith, remainder-lt m p u d)
-
 -- the same of a register's fields
-pub divided-by : (m p u i d q v b : ℕ) → d ≡ m → q ≡ p → v ≡ remainder m p (u / 2 ^ i) → b ≡ bit (i - 1) u → 0 < i → register d q v b ≡ remainder m p (u / 2 ^ (i - 1))
+pub remainder-in : (m p u d v : ℕ) → HasDegree m p → d ≡ m → v ≡ remainder m p u → v < 2 ^ d
+remainder-in m p u d v h ed ev = rw (ev, ed) (remainder-lt m p u h)
+
+pub divided-by : (m p u i d q v b : ℕ) → d ≡ m → q ≡ p → v ≡ remainder m p (u / 2 ^ i) → b ≡ bit (i - 1) u → 0 < i
+    → register d q v b ≡ remainder m p (u / 2 ^ (i - 1))
 divided-by m p u i d q v b ed eq ev eb h = cc (divided-more m p u i h)
 
 pub divided-end : (m p u i v : ℕ) → i ≡ 0 → v ≡ remainder m p (u / 2 ^ i) → v ≡ remainder m p u

@@ -82,7 +82,8 @@ digit-top m p x d h =
     for-bits (λ (c : ℕ). c * p / 2 ^ m ≡ c) (ap (λ (y : ℕ). y / 2 ^ m) (zero-mul p) ∙ zero-div (2 ^ m))
     (ap (λ (y : ℕ). y / 2 ^ m) (one-mul p) ∙ d) x h
 
-push-top : (m r b : ℕ) → r < 2 ^ m → b < 2 → (2 * r + b) / 2 ^ m < 2
+-- a remainder and one digit more: what stands from bit m on is one digit
+pub push-top : (m r b : ℕ) → r < 2 ^ m → b < 2 → (2 * r + b) / 2 ^ m < 2
 push-top m r b hr hb = div-lt-iff-lt-mul (pow-pos m) .1 (omega arith)
 
 pub register-lt : (m p r b : ℕ) → HasDegree m p → r < 2 ^ m → b < 2 → register m p r b < 2 ^ m

@@ -64,7 +64,7 @@ push-low-fits l b s = omega arith
 pub push-high-fits : (h l : ℕ) → l < 2 ^ 64 → h * 2 % 2 ^ 64 + l / 2 ^ 63 < 2 ^ 64
 push-high-fits h l s = omega arith
 
-push-carry : (h l b : ℕ) → 2 * (h * 2 ^ 64 + l) + b ≡ (h * 2 + l / 2 ^ 63) * 2 ^ 64 + (l * 2 % 2 ^ 64 + b)
+pub push-carry : (h l b : ℕ) → 2 * (h * 2 ^ 64 + l) + b ≡ (h * 2 + l / 2 ^ 63) * 2 ^ 64 + (l * 2 % 2 ^ 64 + b)
 push-carry h l b = omega arith
 
 push-top : (h l : ℕ) → l < 2 ^ 64 → (h * 2 + l / 2 ^ 63) % 2 ^ 64 ≡ h * 2 % 2 ^ 64 + l / 2 ^ 63

@@ -1,8 +1,8 @@
 // The remainder register, and the remainder of a word.
 ghost use mathlib.Core.Path.{_≡_};
-ghost use Prim.Native.Nat.{_+_, _*_, _^_, _<_, _≤_};
-ghost use Rattle.poly.specs.Poly.{register, remainder, HasDegree};
+ghost use Rattle.poly.specs.Poly.{register, remainder};
 ghost use Rattle.poly.specs.Word.{number};
+ghost use Rattle.poly.specs.Model.Asked.{ToDivide, ToMultiply, ToTake};
 use super::word::Word;
 use super::word::bit_at;
 
@@ -14,13 +14,13 @@ struct Register {
 }
 
 impl Register {
-    // One bit more, the highest first.
+    // One bit more, the highest first. The value is a remainder, so `top` is 0 or 1; a test of it could not be foretold by the processor.
     fn take(self, b: u64) -> Register
-        requires { ⌜ (self .degree < 64) × (self .value < 2 ^ 32) × (self .polynomial < 2 ^ 32) × (b < 2) ⌝ }
+        requires { ⌜ ToTake (self .degree) (self .polynomial) (self .value) b ⌝ }
         ensures { λ r. ⌜ (r .degree ≡ self .degree) × (r .polynomial ≡ self .polynomial) × (r .value ≡ register (self .degree) (self .polynomial) (self .value) b) ⌝ }
     {
         let s = 2 * self.value + b;
-        let top = (s >> self.degree) % 2;
+        let top = s >> self.degree;
         Register {
             degree: self.degree,
             polynomial: self.polynomial,
@@ -29,9 +29,9 @@ impl Register {
     }
 }
 
-// The remainder of a word of n bits divided by a polynomial of degree m.
-pub fn remainder_of(w: Word, n: u64, m: u64, polynomial: u64) -> u64
-    requires { ⌜ (n ≤ 128) × (m ≤ 12) × HasDegree m polynomial × (number w < 2 ^ n) ⌝ }
+// The remainder of a word of so many bits divided by a polynomial of degree m.
+pub fn remainder_of(w: Word, bits: u64, m: u64, polynomial: u64) -> u64
+    requires { ⌜ ToDivide (number w) bits m polynomial ⌝ }
     ensures { λ r. ⌜ r ≡ remainder m polynomial (number w) ⌝ }
 {
     let mut r = Register {
@@ -39,7 +39,7 @@ pub fn remainder_of(w: Word, n: u64, m: u64, polynomial: u64) -> u64
         polynomial,
         value: 0,
     };
-    let mut i = n;
+    let mut i = bits;
     while 0 < i {
         i -= 1;
         r = r.take(bit_at(w, i));
@@ -49,7 +49,7 @@ pub fn remainder_of(w: Word, n: u64, m: u64, polynomial: u64) -> u64
 
 // x times a remainder of division by a polynomial of degree m, divided again.
 pub fn times_x(r: u64, m: u64, polynomial: u64) -> u64
-    requires { ⌜ (m ≤ 12) × HasDegree m polynomial × (r < 2 ^ m) ⌝ }
+    requires { ⌜ ToMultiply r m polynomial ⌝ }
     ensures { λ s. ⌜ s ≡ register m polynomial r 0 ⌝ }
 {
     let register = Register {

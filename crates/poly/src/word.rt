@@ -5,6 +5,7 @@ ghost use lib.Count.{ones};
 ghost use lib.Dec.{ltb};
 ghost use Rattle.poly.specs.Poly.{bit, _⊕_};
 ghost use Rattle.poly.specs.Word.{number};
+ghost use Rattle.poly.specs.Model.Asked.{ToShift, ToShiftUp};
 
 #[repr(C)]
 pub struct Word {
@@ -112,7 +113,7 @@ pub fn shift_in(w: Word, b: u64) -> Word
 
 // x^m times the word, where that has no more than 128 bits.
 pub fn shift_up(w: Word, m: u64) -> Word
-    requires { ⌜ (0 < m) × (m < 64) × (number w * 2 ^ m < 2 ^ 128) ⌝ }
+    requires { ⌜ ToShiftUp (number w) m ⌝ }
     ensures { λ r. ⌜ number r ≡ number w * 2 ^ m ⌝ }
 {
     Word {
@@ -123,7 +124,7 @@ pub fn shift_up(w: Word, m: u64) -> Word
 
 // The word without its m lowest bits.
 pub fn shift_down(w: Word, m: u64) -> Word
-    requires { ⌜ (0 < m) × (m < 64) ⌝ }
+    requires { ⌜ ToShift m ⌝ }
     ensures { λ r. ⌜ number r ≡ number w / 2 ^ m ⌝ }
 {
     Word {

@@ -1,4 +1,3 @@
-pub mod Local
 pub mod Read
 pub mod Shown
 pub mod Samples

@@ -1,24 +1,25 @@
 -- An order that was read has 2 to 4 generators and a threshold from 1 to 64, and the struct tells it whole. So what is printed for the struct is
 -- what is printed for the record.
 -- Assumes nothing.
-use Prim.Native.Nat.{ℕ, zero, suc, _+_, _*_, _≤_}
+use Prim.Native.Nat.{ℕ, zero, suc}
 use mathlib.Core.Path.{_≡_, refl, sym, ap, _∙_, subst}
-use mathlib.Core.List.{List, [], _++_}
-use lib.ListN.{length, getD}
-use Rattle.order.specs.Questions.{firstNo, orderNumbers, generatorQuestions}
-use Rattle.order.specs.Order.{Order, recordQuestions, orderQuestions, readFields, reading, read}
-use Rattle.order.specs.Answers.{recordOf, fieldsOf, readingOf}
+use mathlib.Core.List.{List, _++_}
+use Rattle.order.specs.Questions.{firstNo}
+use Rattle.order.specs.Answer.{accepted, unless}
+use Rattle.order.specs.Order.{Order, recordQuestions, orderQuestions, readFields, read}
+use Rattle.order.specs.Answers.{orderIn, recordOf, readingOf}
+use Rattle.order.specs.Model.Accepted.{AcceptedAs, AcceptedWhole}
+use Rattle.order.specs.declared.questions.Takes.the-variants as T
 use Rattle.order.specs.declared.record.OrderRecord.{OrderRecord}
 use Rattle.order.specs.declared.record.Reading.{Reading}
 use Rattle.order.specs.declared.record.Reading.the-variants as R
-use Rattle.order.proofs.Answers.{range}
-use Rattle.order.proofs.FirstNo.{firstNo-none, firstNo-yes, yes-of-firstNo}
-use Rattle.order.proofs.Records.{record-shape, first-generators, fields-are-record}
+use Rattle.order.proofs.FirstNo.{none-in-parts}
+use Rattle.order.proofs.Asked.{accepted-order}
+use Rattle.order.proofs.Records.{record-numbered, order-of-record}
 use Rattle.search.specs.Calls.{searchCall}
 use Rattle.text.specs.Text.{refusalText}
-use Rattle.text.specs.Calls.{orderIn}
 use Rattle.print.specs.Printed.{lent, printedSearch, printedReading, printed}
-use Rattle.print.specs.Steps.{Small}
+use Rattle.print.specs.Model.Steps.{Small}
 
 -- what is printed for an answer of `read_order`
 shownFor : Reading → List ℕ
@@ -30,48 +31,34 @@ Known : Reading → Type 0
 Known (R.Order o) = Small o
 Known (R.Refused k) = Unit {0}
 
-module _ (bytes : List ℕ) (accepted : firstNo (recordQuestions bytes ++ orderQuestions (readFields bytes)) ≡ 0) where
-  shape : (2 ≤ getD bytes 3 0) × (getD bytes 3 0 ≤ 4) × (length bytes ≡ 8 + 2 * getD bytes 3 0)
-  unfolding recordQuestions orderQuestions orderNumbers generatorQuestions
-  shape =
-      let yes = yes-of-firstNo (recordQuestions bytes ++ orderQuestions (readFields bytes)) (tt, (tt, (tt, (tt, (tt, (tt, (tt, (tt, (tt, tt))))))))) accepted in
-      record-shape bytes 0 (sym (firstNo-yes _ _ (yes .0) ∙ firstNo-yes _ _ (yes .1 .0) ∙ firstNo-yes _ [] (yes .1 .1 .0) ∙ firstNo-none)) refl
-
-  threshold-right : (1 ≤ getD bytes 7 0) × (getD bytes 7 0 ≤ 64)
-  unfolding recordQuestions orderQuestions orderNumbers generatorQuestions readFields
-  threshold-right = range 1 64 (getD bytes 7 0) (yes-of-firstNo (recordQuestions bytes ++ orderQuestions (readFields bytes)) (tt, (tt, (tt, (tt, (tt, (tt, (tt, (tt, (tt, tt))))))))) accepted .1 .1 .1 .1 .1 .1 .0)
-
-  fields : fieldsOf bytes ≡ recordOf (readFields bytes)
-  fields = fields-are-record bytes (shape .0) (shape .1) (shape .2)
-
-  small : Small (recordOf (readFields bytes))
-  unfolding fieldsOf
-  small = subst Small fields record { two-generators = shape .0; four-generators = shape .1; some-weight = threshold-right .0; some-counts = threshold-right .1 }
-
-  whole : orderIn (recordOf (readFields bytes)) ≡ readFields bytes
-  unfolding fieldsOf readFields
-  whole =
-      ap orderIn (sym fields)
-      ∙ ap (λ (gs : List ℕ). record { v = getD bytes 4 0; N = getD bytes 5 0; m = getD bytes 6 0; d = getD bytes 7 0; generators = gs }) (first-generators bytes (getD bytes 3 0) (shape .0) (shape .1))
-
 module _ (bytes : List ℕ) where
   abbrev asked : ℕ
-  asked = firstNo (recordQuestions bytes ++ orderQuestions (readFields bytes))
+  asked = firstNo (recordQuestions bytes ++ orderQuestions T.Everything (readFields bytes))
+
+  passed : asked ≡ 0 → AcceptedWhole (readFields bytes)
+  unfolding AcceptedAs
+  passed e = accepted-order T.Everything (readFields bytes) (none-in-parts (recordQuestions bytes) (orderQuestions T.Everything (readFields bytes)) (record-numbered bytes) e .1)
+
+  small : asked ≡ 0 → Small (recordOf (readFields bytes))
+  unfolding recordOf
+  small e =
+      let acc = passed e in
+      record { two-generators = acc .order .code .some-generators; four-generators = acc .order .code .few-generators; some-weight = acc .order .threshold .some-weight; some-counts = acc .order .threshold .at-most-64 }
 
   known : Known (readingOf (read bytes))
-  unfolding read reading readingOf Known
+  unfolding read unless readingOf Known
   known = by asked refl
     where
-      by : (k : ℕ) → asked ≡ k → Known (readingOf (reading (readFields bytes) k))
-      by zero e = small bytes e
+      by : (k : ℕ) → asked ≡ k → Known (readingOf (unless k (accepted (readFields bytes))))
+      by zero e = small e
       by (suc k) e = tt
 
   shown : shownFor (readingOf (read bytes)) ≡ printed bytes
-  unfolding read printed reading readingOf shownFor printedReading
+  unfolding read printed unless readingOf shownFor printedReading
   shown = by asked refl
     where
-      by : (k : ℕ) → asked ≡ k → shownFor (readingOf (reading (readFields bytes) k)) ≡ printedReading (reading (readFields bytes) k)
-      by zero e = ap (λ (o : Order). printedSearch o (searchCall o lent)) (whole bytes e)
+      by : (k : ℕ) → asked ≡ k → shownFor (readingOf (unless k (accepted (readFields bytes)))) ≡ printedReading (unless k (accepted (readFields bytes)))
+      by zero e = ap (λ (o : Order). printedSearch o (searchCall o lent)) (order-of-record (readFields bytes) (passed e .order .code .few-generators))
       by (suc k) e = refl
 
   pub read-small : (o : OrderRecord) → R.Order o ≡ readingOf (read bytes) → Small o

@@ -3,19 +3,20 @@
 use mathlib.Core.Path.{_≡_, refl}
 use mathlib.Core.List.{[], _∷_, flatMap}
 use lib.Count.{onesIn, ones}
-use Rattle.lists.specs.Lists.{upFrom, filter, count, all, any, padded}
+use Rattle.lists.specs.Lists.{upFrom, filter, count, all, any, padded, cleared}
 use Rattle.poly.specs.Poly.{bit, _⊕_, digitsThrough, horner, _⊗_, register, remainder}
 use Rattle.code.specs.Weight.{output, weight}
 use Rattle.code.specs.Trellis.{next, tapped, stepOutput, stepWeight, walkWeight, firstMeets}
-use Rattle.order.specs.Questions.{firstNo, from-to, inRange, hasBit, workSize, orderNumbers, generatorQuestions}
-use Rattle.order.specs.Order.{be16, readGenerators, readFields, lengthRight, versionRight, countRight, recordQuestions, orderQuestions, reading, read}
-use Rattle.events.specs.Events.{listed, eventsOfLength, eventsOfState, events, entry, noEvent, eventTable}
+use Rattle.order.specs.Questions.{firstNo, from-to, inRange, hasBit, workSize, shapeQuestions, generatorQuestions}
+use Rattle.order.specs.Order.{be16, readGenerators, readFields, lengthRight, versionRight, countRight, recordQuestions, numberQuestions, orderQuestions, read}
+use Rattle.order.specs.Answer.{unless, unlessRefused}
+use Rattle.events.specs.Events.{isListed, eventsOfLength, eventsOfState, events, entry, noEvent, eventTable}
 use Rattle.poly.specs.Word.{halves}
 use Rattle.paths.specs.Paths.{words, wordsOfWeight, weights, paths, plainCounts, pathTable, pathRoom}
 use Rattle.undetected.specs.Undetected.{passes, undetectedCount, undetectedCounts}
 use Rattle.choice.specs.Choice.{candidates, fewer, betters, best, choiceOf, choice}
-use Rattle.listing.specs.Calls as Listing
-use Rattle.search.specs.Calls.{allCleared, filled, searchQuestions, fitting, asked, chosen, searchCall}
+use Rattle.listing.specs.Calls.{unlessTooMany}
+use Rattle.search.specs.Calls.{clearedSearch, filledSearch, searchQuestions, chosen, searchCall}
 use Rattle.text.specs.Text.{digit, digits, numeral, decimal, octal, hexadecimal, line, wORDER, wEVENTS, wPATHS, wA, wCRC, wNO, orderLine, countLine, rowText, refusalText}
 use Rattle.print.specs.Printed.{lent, printedRow, printedSearch, printedReading, printed}
 
@@ -31,10 +32,10 @@ document-printed : printed (0 ∷ 10 ∷ 1 ∷ 2 ∷ 1 ∷ 4 ∷ 2 ∷ 6 ∷ 0 �
     ∷ 65 ∷ 32 ∷ 52 ∷ 32 ∷ 53 ∷ 32 ∷ 49 ∷ 10
     ∷ 65 ∷ 32 ∷ 53 ∷ 32 ∷ 52 ∷ 32 ∷ 48 ∷ 10
     ∷ 67 ∷ 82 ∷ 67 ∷ 32 ∷ 48 ∷ 120 ∷ 53 ∷ 10 ∷ []
-unfolding flatMap onesIn ones upFrom filter count all any padded bit _⊕_ digitsThrough horner _⊗_ register remainder output weight next tapped stepOutput stepWeight walkWeight firstMeets firstNo from-to inRange hasBit workSize orderNumbers generatorQuestions orderQuestions listed eventsOfLength eventsOfState events entry noEvent eventTable words wordsOfWeight weights paths plainCounts halves pathTable pathRoom passes undetectedCount undetectedCounts candidates fewer betters best choiceOf choice Listing.cleared Listing.allCleared Listing.filled allCleared filled searchQuestions fitting asked chosen searchCall digit digits numeral decimal octal hexadecimal line wORDER wEVENTS wPATHS wA wCRC orderLine countLine rowText be16 readGenerators readFields lengthRight versionRight countRight recordQuestions reading read lent printedRow printedSearch printedReading printed
+unfolding flatMap onesIn ones upFrom filter count all any padded cleared bit _⊕_ digitsThrough horner _⊗_ register remainder output weight next tapped stepOutput stepWeight walkWeight firstMeets firstNo from-to inRange hasBit workSize shapeQuestions numberQuestions generatorQuestions orderQuestions unless unlessRefused isListed eventsOfLength eventsOfState events entry noEvent eventTable words wordsOfWeight weights paths plainCounts halves pathTable pathRoom passes undetectedCount undetectedCounts candidates fewer betters best choiceOf choice unlessTooMany clearedSearch filledSearch searchQuestions chosen searchCall digit digits numeral decimal octal hexadecimal line wORDER wEVENTS wPATHS wA wCRC orderLine countLine rowText be16 readGenerators readFields lengthRight versionRight countRight recordQuestions read lent printedRow printedSearch printedReading printed
 document-printed = refl
 
 -- NO 1
 nothing-printed : printed [] ≡ 78 ∷ 79 ∷ 32 ∷ 49 ∷ 10 ∷ []
-unfolding flatMap firstNo be16 lengthRight recordQuestions reading read digit digits numeral decimal line wNO refusalText printedReading printed
+unfolding flatMap firstNo be16 lengthRight recordQuestions unless read digit digits numeral decimal line wNO refusalText printedReading printed
 nothing-printed = refl

@@ -5,11 +5,11 @@ ghost use lib.ListN.{length, replicate};
 ghost use Rattle.lists.specs.Lists.{padded};
 ghost use Rattle.order.specs.Questions.{workSize};
 ghost use Rattle.events.specs.Events.{noEvent};
-ghost use Rattle.search.specs.Calls.{searchedAs, searchCall, orderWith};
+ghost use Rattle.search.specs.Calls.{searchedAs, searchTables, searchCall};
 ghost use Rattle.text.specs.Text.{refusalText};
-ghost use Rattle.text.specs.Calls.{orderIn};
+ghost use Rattle.order.specs.Answers.{orderIn};
 ghost use Rattle.print.specs.Printed.{lent, printedRow, printedSearch, printed};
-ghost use Rattle.print.specs.Steps.{counted, Small, Shown, sizeOf};
+ghost use Rattle.print.specs.Model.Steps.{counted, Small, ToPrint, Shown, sizeOf};
 use events::Event;
 use order::record::OrderRecord;
 use order::record::Reading;
@@ -24,17 +24,13 @@ use text::write_row;
 
 // The search, with a table for 512 events.
 fn search_events(
-    generators: &[u64],
-    v: u64,
-    bits: u64,
-    m: u64,
-    d: u64,
+    order: OrderRecord,
     paths: &mut [u64],
     plain: &mut [u64],
     undetected: &mut [u64],
     work: &mut [u64],
 ) -> Searched
-    ensures { λ r. ⌜ (searchedAs r, (now (plain .exit), now (undetected .exit))) ≡ counted (searchCall (orderWith (now (generators .entry)) v bits m d) ((replicate 512 noEvent, (now (paths .entry), (now (plain .entry), now (work .entry)))), now (undetected .entry))) ⌝ }
+    ensures { λ r. ⌜ (searchedAs r, (now (plain .exit), now (undetected .exit))) ≡ counted (searchCall (orderIn order) (searchTables (replicate 512 noEvent) (now (paths .entry)) (now (plain .entry)) (now (undetected .entry)) (now (work .entry)))) ⌝ }
 {
     let mut events = [Event {
         state: 0,
@@ -43,40 +39,16 @@ fn search_events(
         low: 0,
         high: 0,
     }; 512];
-    search(
-        generators,
-        v,
-        bits,
-        m,
-        d,
-        &mut events,
-        paths,
-        plain,
-        undetected,
-        work,
-    )
+    search(order, &mut events, paths, plain, undetected, work)
 }
 
 // The search with every table but the counts.
-fn search_paths(o: OrderRecord, plain: &mut [u64], undetected: &mut [u64]) -> Searched
-    requires { ⌜ o .n ≤ 4 ⌝ }
-    ensures { λ r. ⌜ (searchedAs r, (now (plain .exit), now (undetected .exit))) ≡ counted (searchCall (orderIn o) ((replicate 512 noEvent, (replicate 4096 0, (now (plain .entry), replicate workSize 0))), now (undetected .entry))) ⌝ }
+fn search_paths(order: OrderRecord, plain: &mut [u64], undetected: &mut [u64]) -> Searched
+    ensures { λ r. ⌜ (searchedAs r, (now (plain .exit), now (undetected .exit))) ≡ counted (searchCall (orderIn order) (searchTables (replicate 512 noEvent) (replicate 4096 0) (now (plain .entry)) (now (undetected .entry)) (replicate workSize 0))) ⌝ }
 {
     let mut paths = [0; 4096];
     let mut work = [0; 8192];
-    let n = o.n as usize;
-    let all = [o.g1, o.g2, o.g3, o.g4];
-    search_events(
-        &all[..n],
-        o.v,
-        o.bits,
-        o.m,
-        o.d,
-        &mut paths,
-        plain,
-        undetected,
-        &mut work,
-    )
+    search_events(order, &mut paths, plain, undetected, &mut work)
 }
 
 // ---- the text
@@ -104,7 +76,7 @@ fn print_searched(
     undetected: &[u64],
     text: &mut [u8],
 ) -> usize
-    requires { ⌜ Small o × (length (now plain) ≡ 64) × (length (now undetected) ≡ 64) × (4096 ≤ length (now text)) ⌝ }
+    requires { ⌜ ToPrint o (now plain) (now undetected) (now text) ⌝ }
     ensures { λ r. ⌜ Shown (printedRow (orderIn o) (searchedAs a) (now (plain .entry)) (now (undetected .entry))) (now (text .entry)) (now (text .exit)) r ⌝ }
 {
     match a {

@@ -7,7 +7,7 @@ use native.Mathlib.Decide.{decLt}
 use native.Mathlib.Omega.{arith}
 use mathlib.Core.Path.{_≡_, refl, sym, ap, _∙_, subst}
 use mathlib.Core.Bool.{Bool, true, false}
-use mathlib.Core.List.{List, [], _∷_, map, List·Memᴰ}
+use mathlib.Core.List.{List, [], _∷_, map}
 use borrow.Author.Tests.{ltb-true, ltb-false}
 use lib.Arith.{lt-one}
 use lib.Dec.{ltb, lt→ltb}
@@ -20,13 +20,9 @@ use Rattle.poly.proofs.Bits.{bit-zero, fromBits-cong, fromBits-bits}
 use Rattle.code.specs.Trellis.{place, rotate}
 use Rattle.code.proofs.Rotation.{rotate-lt, rotate-rotate, rotate-zero, rotate-all}
 use Rattle.paths.specs.Paths.{pathRoom}
-use Rattle.paths.specs.Chains.{turns}
-use Rattle.paths.proofs.Words.{of-turns}
-use Rattle.rotations.specs.Put.{put, puts}
+use Rattle.paths.specs.Model.Joining.{turns}
+use Rattle.rotations.specs.Model.Put.{put, puts}
 use Rattle.rotations.proofs.Puts.{length-put, put-place}
-
-pub turns-below : (N first c : ℕ) {u : ℕ} → List·Memᴰ u (turns N first c) → u < 2 ^ N
-turns-below N first c m = let t = of-turns N first c m .1 in subst (λ (x : ℕ). x < 2 ^ N) (t .2) (rotate-lt N (t .0) c)
 
 -- ---- rotations of zero, and of other words
 

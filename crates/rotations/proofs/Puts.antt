@@ -16,7 +16,7 @@ use Rattle.lists.proofs.Lengths.{length-padded}
 use Rattle.poly.specs.Word.{halves}
 use Rattle.poly.proofs.Halves.{length-halves, stored-halves}
 use Rattle.paths.specs.Paths.{pathRoom}
-use Rattle.rotations.specs.Put.{stored, put, puts}
+use Rattle.rotations.specs.Model.Put.{stored, put, puts}
 
 -- ---- one word
 
@@ -80,10 +80,6 @@ put-refused u t at past = sym (put-outside u t at past)
 pub puts-none : (s : List ℕ × ℕ) → puts [] s ≡ s
 unfolding puts
 puts-none s = refl
-
-pub puts-more : (u : ℕ) (us : List ℕ) (s : List ℕ × ℕ) → puts (u ∷ us) s ≡ puts us (put u s)
-unfolding puts
-puts-more u us s = refl
 
 pub puts-append : (us vs : List ℕ) (s : List ℕ × ℕ) → puts (us ++ vs) s ≡ puts vs (puts us s)
 unfolding puts

@@ -1,12 +1,13 @@
 // The rotations of a word, appended to a path table; and the inputs of an event, joined to those before them.
 ghost use mathlib.Core.Path.{_≡_};
-ghost use Prim.Native.Nat.{_+_, _*_, _^_, _<_, _≤_};
+ghost use Prim.Native.Nat.{_+_, _*_, _^_, _≤_};
 ghost use lib.ListN.{length};
 ghost use Rattle.poly.specs.Word.{number};
 ghost use Rattle.code.specs.Trellis.{rotate};
+ghost use Rattle.code.specs.Model.Steps.{ShortWord};
 ghost use Rattle.paths.specs.Paths.{pathRoom};
-ghost use Rattle.paths.specs.Chains.{turns};
-ghost use Rattle.rotations.specs.Put.{put, puts};
+ghost use Rattle.paths.specs.Model.Joining.{turns};
+ghost use Rattle.rotations.specs.Model.Put.{put, puts, ToPushTurns, ToJoinInput};
 use poly::word::Word;
 use poly::word::is_below;
 
@@ -27,7 +28,7 @@ pub fn push(table: &mut [u64], at: usize, w: Word) -> usize
 
 // The word begun one step later: its lowest bit becomes the highest of its bits.
 pub fn turn_back(w: Word, bits: u64) -> Word
-    requires { ⌜ (0 < bits) × (bits ≤ 128) × (number w < 2 ^ bits) ⌝ }
+    requires { ⌜ ShortWord bits (number w) ⌝ }
     ensures { λ r. ⌜ number r ≡ rotate bits 1 (number w) ⌝ }
 {
     let b = w.low % 2;
@@ -47,7 +48,7 @@ pub fn turn_back(w: Word, bits: u64) -> Word
 
 // The word begun 0, 1, .., first - 1 steps later, without the zero word (the only one below 2^0), each appended.
 pub fn push_turns(table: &mut [u64], at: usize, bits: u64, first: u64, w: Word) -> usize
-    requires { ⌜ (at ≤ pathRoom (length (now table)) + 1) × (0 < bits) × (bits ≤ 128) × (number w < 2 ^ bits) ⌝ }
+    requires { ⌜ ToPushTurns (length (now table)) at bits (number w) ⌝ }
     ensures { λ r. ⌜ (now (table .exit), r) ≡ puts (turns bits first (number w)) (now (table .entry), at) ⌝ }
 {
     if is_below(w, 0) {
@@ -66,7 +67,7 @@ pub fn push_turns(table: &mut [u64], at: usize, bits: u64, first: u64, w: Word) 
 
 // The input of an event, `place` bits up, joined to the inputs before it.
 pub fn join_input(before: Word, input: Word, place: u64) -> Word
-    requires { ⌜ (place < 128) × (number before < 2 ^ place) × (number input * 2 ^ place < 2 ^ 128) ⌝ }
+    requires { ⌜ ToJoinInput (number before) (number input) place ⌝ }
     ensures { λ r. ⌜ number r ≡ number before + number input * 2 ^ place ⌝ }
 {
     if place == 0 {

@@ -3,22 +3,23 @@
 use mathlib.Core.Path.{_≡_, refl}
 use mathlib.Core.List.{map, flatMap}
 use lib.Count.{onesIn, ones}
-use Rattle.lists.specs.Lists.{upFrom, filter, count, all, any, padded}
+use Rattle.lists.specs.Lists.{upFrom, filter, count, all, any, padded, cleared}
 use Rattle.poly.specs.Poly.{bit, _⊕_, digitsThrough, horner, _⊗_, register, remainder}
-use Rattle.crc.specs.Check.{append}
+use Rattle.crc.specs.Check.{append, polynomialQuestions, wordQuestions, appendCall}
 use Rattle.code.specs.Weight.{output, weight}
 use Rattle.code.specs.Trellis.{next, tapped, stepOutput, stepWeight, walkWeight, firstMeets}
-use Rattle.order.specs.Questions.{firstNo, from-to, inRange, hasBit, workSize, orderNumbers, generatorQuestions}
-use Rattle.order.specs.Order.{orderQuestions}
-use Rattle.events.specs.Events.{listed, eventsOfLength, eventsOfState, events, entry, noEvent, eventTable}
+use Rattle.order.specs.Questions.{firstNo, from-to, inRange, hasBit, workSize, shapeQuestions, generatorQuestions}
+use Rattle.order.specs.Order.{numberQuestions, orderQuestions}
+use Rattle.order.specs.Answer.{unless, unlessRefused}
+use Rattle.events.specs.Events.{isListed, eventsOfLength, eventsOfState, events, entry, noEvent, eventTable}
 use Rattle.poly.specs.Word.{halves}
 use Rattle.paths.specs.Paths.{words, wordsOfWeight, weights, paths, plainCounts, pathTable, pathRoom}
 use Rattle.undetected.specs.Undetected.{passes, undetectedCount, undetectedCounts}
 use Rattle.choice.specs.Choice.{candidates, fewer, betters, best, choiceOf, choice}
-use Rattle.listing.specs.Calls as Listing
-use Rattle.search.specs.Calls.{allCleared, filled, searchQuestions, fitting, asked, chosen, searchCall}
+use Rattle.listing.specs.Calls.{unlessTooMany}
+use Rattle.search.specs.Calls.{clearedSearch, filledSearch, searchQuestions, chosen, searchCall}
 use Rattle.rows.specs.Rows.{lent, figuresOf, told, rows}
 
 pub rows-hold : map (λ line. told (line .0)) rows ≡ map (λ line. line .1) rows
-unfolding flatMap onesIn ones upFrom filter count all any padded bit _⊕_ digitsThrough horner _⊗_ register remainder append output weight next tapped stepOutput stepWeight walkWeight firstMeets firstNo from-to inRange hasBit workSize orderNumbers generatorQuestions orderQuestions listed eventsOfLength eventsOfState events entry noEvent eventTable words wordsOfWeight weights paths plainCounts halves pathTable pathRoom passes undetectedCount undetectedCounts candidates fewer betters best choiceOf choice Listing.cleared Listing.allCleared Listing.filled allCleared filled searchQuestions fitting asked chosen searchCall lent figuresOf told rows
+unfolding flatMap onesIn ones upFrom filter count all any padded cleared bit _⊕_ digitsThrough horner _⊗_ register remainder append polynomialQuestions wordQuestions appendCall output weight next tapped stepOutput stepWeight walkWeight firstMeets firstNo from-to inRange hasBit workSize shapeQuestions numberQuestions generatorQuestions orderQuestions unless unlessRefused isListed eventsOfLength eventsOfState events entry noEvent eventTable words wordsOfWeight weights paths plainCounts halves pathTable pathRoom passes undetectedCount undetectedCounts candidates fewer betters best choiceOf choice unlessTooMany clearedSearch filledSearch searchQuestions chosen searchCall lent figuresOf told rows
 rows-hold = refl

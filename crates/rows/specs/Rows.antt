@@ -2,25 +2,26 @@
 -- line's figures are what the definitions give. Where document 01 leaves a figure of a row out, the line states it all the same.
 -- Polynomials are in hexadecimal, the rest in decimal, as in the document. Code S has v = 1 and generators 1, 3.
 -- Assumes nothing.
-use Prim.Native.Nat.{ℕ, zero, _*_}
+use Prim.Native.Nat.{ℕ, _*_}
 use mathlib.Core.List.{List, [], _∷_}
 use lib.ListN.{length, replicate}
-use Rattle.crc.specs.Check.{append}
+use Rattle.crc.specs.Check.{appendCall}
 use Rattle.code.specs.Weight.{weight}
 use Rattle.order.specs.Questions.{workSize}
 use Rattle.order.specs.Order.{Order}
 use Rattle.events.specs.Events.{ErrorEvent, events, noEvent}
 use Rattle.paths.specs.Paths.{paths, plainCounts}
-use Rattle.search.specs.Calls.{Answer, found, tied, Tables, searchCall}
+use Rattle.order.specs.Answer.{Answer, accepted, refusedWith}
+use Rattle.search.specs.Calls.{Found, found, SearchTables, searchTables, searchCall}
 
 -- what a line asks: the row of an order; the weight of a word; the word of a message
 pub data Ask : Type 0 where
   row : Order → Ask
   weigh : (N : ℕ) (generators : List ℕ) (word : ℕ) → Ask
-  word : (m polynomial message : ℕ) → Ask
+  word : (N m polynomial message : ℕ) → Ask
 
 pub record Figures : Type 0 where
-  pub answer : Answer
+  pub answer : Answer Found
   pub events : List ErrorEvent
   pub paths : List ℕ
   pub plain : List ℕ
@@ -29,20 +30,21 @@ pub record Figures : Type 0 where
 pub data Told : Type 0 where
   figures : Figures → Told
   a-number : ℕ → Told
+  an-answer : Answer ℕ → Told
 
 -- what the definitions give, with `dso`'s tables lent: 512 events, 2,048 paths
-unfoldable pub lent : ℕ → Tables
-lent d = ((replicate 512 noEvent, (replicate (2 * 2048) 0, (replicate d 0, replicate workSize 0))), replicate d 0)
+unfoldable pub lent : ℕ → SearchTables
+lent d = searchTables (replicate 512 noEvent) (replicate (2 * 2048) 0) (replicate d 0) (replicate d 0) (replicate workSize 0)
 
 unfoldable pub figuresOf : Order → Figures
 figuresOf o =
     let s = searchCall o (lent (o .d)) in
-    record { answer = s .0; events = events o; paths = paths o; plain = plainCounts o; undetected = s .1 .1 }
+    record { answer = s .0; events = events o; paths = paths o; plain = plainCounts o; undetected = s .1 .undetected }
 
 unfoldable pub told : Ask → Told
 told (row o) = figures (figuresOf o)
 told (weigh N gs u) = a-number (weight N gs u)
-told (word m p f) = a-number (append m p f)
+told (word N m p f) = an-answer (appendCall N m p f)
 
 -- ---- the table
 
@@ -54,7 +56,7 @@ Line = Ask × Told
 abbrev event : ℕ → ℕ → ℕ → ℕ → ErrorEvent
 event s l w c = record { state = s; length = l; weight = w; input = c }
 
-abbrev line : (v N m d : ℕ) → List ℕ → Answer → List ErrorEvent → List ℕ → List ℕ → List ℕ → Line
+abbrev line : (v N m d : ℕ) → List ℕ → Answer Found → List ErrorEvent → List ℕ → List ℕ → List ℕ → Line
 line v N m d gs answer es us plain undetected = (
   row (record { v = v; N = N; m = m; d = d; generators = gs }),
   figures (record { answer = answer; events = es; paths = us; plain = plain; undetected = undetected }),
@@ -66,49 +68,49 @@ S = 1 ∷ 3 ∷ []
 unfoldable pub rows : List Line
 rows =
     -- S, N=3, m=2, d=5: 4 events, 7 paths, 0x5, undetected 0 0 0 0 1
-    line 1 3 2 5 S (found 4 7 0x5)
+    line 1 3 2 5 S (accepted (found 4 7 0x5))
     (event 0 1 0 0 ∷ event 0 2 3 1 ∷ event 0 3 4 3 ∷ event 1 1 1 1 ∷ [])
     (1 ∷ 2 ∷ 4 ∷ 7 ∷ 3 ∷ 5 ∷ 6 ∷ [])
     (0 ∷ 0 ∷ 0 ∷ 4 ∷ 3 ∷ []) (0 ∷ 0 ∷ 0 ∷ 0 ∷ 1 ∷ [])
     -- with d=4: 0x5, all zero
-    ∷ line 1 3 2 4 S (found 3 4 0x5)
+    ∷ line 1 3 2 4 S (accepted (found 3 4 0x5))
     (event 0 1 0 0 ∷ event 0 2 3 1 ∷ event 1 1 1 1 ∷ [])
     (1 ∷ 2 ∷ 4 ∷ 7 ∷ [])
     (0 ∷ 0 ∷ 0 ∷ 4 ∷ []) (0 ∷ 0 ∷ 0 ∷ 0 ∷ [])
     -- with d=3: refusal 15, two left
-    ∷ line 1 3 2 3 S (tied 2)
+    ∷ line 1 3 2 3 S (refusedWith 15 2)
     (event 0 1 0 0 ∷ event 1 1 1 1 ∷ [])
     []
     (0 ∷ 0 ∷ 0 ∷ []) (0 ∷ 0 ∷ 0 ∷ [])
     -- S, N=4, m=2, d=5: refusal 15, two left, shared 0 0 0 0 1
-    ∷ line 1 4 2 5 S (tied 2)
+    ∷ line 1 4 2 5 S (refusedWith 15 2)
     (event 0 1 0 0 ∷ event 0 2 3 1 ∷ event 0 3 4 3 ∷ event 1 1 1 1 ∷ [])
     (1 ∷ 2 ∷ 4 ∷ 8 ∷ 3 ∷ 6 ∷ 9 ∷ 12 ∷ 15 ∷ [])
     (0 ∷ 0 ∷ 0 ∷ 4 ∷ 5 ∷ []) (0 ∷ 0 ∷ 0 ∷ 0 ∷ 1 ∷ [])
     -- with d=6: 0x5 (the row that document 01 prints)
-    ∷ line 1 4 2 6 S (found 5 13 0x5)
+    ∷ line 1 4 2 6 S (accepted (found 5 13 0x5))
     (event 0 1 0 0 ∷ event 0 2 3 1 ∷ event 0 3 4 3 ∷ event 0 4 5 7 ∷ event 1 1 1 1 ∷ [])
     (1 ∷ 2 ∷ 4 ∷ 8 ∷ 3 ∷ 6 ∷ 9 ∷ 12 ∷ 15 ∷ 7 ∷ 11 ∷ 13 ∷ 14 ∷ [])
     (0 ∷ 0 ∷ 0 ∷ 4 ∷ 5 ∷ 4 ∷ []) (0 ∷ 0 ∷ 0 ∷ 0 ∷ 1 ∷ 0 ∷ [])
     -- S, N=4, d=7: 15 paths; words 5 and 10 weigh 6 and stand once each
-    ∷ line 1 4 2 7 S (found 5 15 0x5)
+    ∷ line 1 4 2 7 S (accepted (found 5 15 0x5))
     (event 0 1 0 0 ∷ event 0 2 3 1 ∷ event 0 3 4 3 ∷ event 0 4 5 7 ∷ event 1 1 1 1 ∷ [])
     (1 ∷ 2 ∷ 4 ∷ 8 ∷ 3 ∷ 6 ∷ 9 ∷ 12 ∷ 15 ∷ 7 ∷ 11 ∷ 13 ∷ 14 ∷ 5 ∷ 10 ∷ [])
     (0 ∷ 0 ∷ 0 ∷ 4 ∷ 5 ∷ 4 ∷ 2 ∷ []) (0 ∷ 0 ∷ 0 ∷ 0 ∷ 1 ∷ 0 ∷ 2 ∷ [])
     ∷ (weigh 4 S 5, a-number 6)
     ∷ (weigh 4 S 10, a-number 6)
     -- S, N=2, m=1, d=3: 0x3, undetected 0 0 1
-    ∷ line 1 2 1 3 S (found 2 1 0x3)
+    ∷ line 1 2 1 3 S (accepted (found 2 1 0x3))
     (event 0 1 0 0 ∷ event 1 1 1 1 ∷ [])
     (3 ∷ [])
     (0 ∷ 0 ∷ 1 ∷ []) (0 ∷ 0 ∷ 1 ∷ [])
     -- generators 3, 3, v=1, N=2, m=1, d=1: 2 events, 0x3, undetected 1 (word 3 weighs 0)
-    ∷ line 1 2 1 1 (3 ∷ 3 ∷ []) (found 2 1 0x3)
+    ∷ line 1 2 1 1 (3 ∷ 3 ∷ []) (accepted (found 2 1 0x3))
     (event 0 1 0 0 ∷ event 1 1 0 1 ∷ [])
     (3 ∷ [])
     (1 ∷ []) (1 ∷ [])
     ∷ (weigh 2 (3 ∷ 3 ∷ []) 3, a-number 0)
     -- m=2, N=4: message 1 under 0x7 gives word 7; message 3 under 0x5 gives word 15
-    ∷ (word 2 0x7 1, a-number 7)
-    ∷ (word 2 0x5 3, a-number 15)
+    ∷ (word 4 2 0x7 1, an-answer (accepted 7))
+    ∷ (word 4 2 0x5 3, an-answer (accepted 15))
     ∷ []

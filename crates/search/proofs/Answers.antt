@@ -1,337 +1,274 @@
--- What the two calls answer and leave, at each of their ends: a question says no, the listing is refused, or all is listed and counted. The call's
--- order has a check degree, the listing's has none: events and paths do not depend on it.
+-- What the two calls answer and leave, at each of their ends: the listing is refused, or all is listed and the job is done over it.
 -- Assumes nothing.
-use Prim.Native.Nat.{ℕ, zero, suc, _*_, _/_, _^_, _≤_, _<_}
+use Prim.Native.Nat.{ℕ, _*_, _≤_, _<_}
 use native.Mathlib.Decide.{ℕ-discrete}
 use native.Mathlib.Omega.{arith}
-use mathlib.Core.Path.{_≡_, refl, sym, ap, ap₂, _∙_, subst}
+use mathlib.Core.Path.{_≡_, refl, sym, ap, ap₂, _∙_}
 use mathlib.Core.Logic.{_≢_, inl, inr}
 use mathlib.Core.Bool.{Bool, cond}
-use mathlib.Core.List.{List, [], _∷_, _++_}
-use lib.Dec.{leb, ltb, eqb}
+use mathlib.Core.List.{List, _++_}
+use lib.Dec.{eqb}
 use lib.ListN.{length, replicate, drop}
-use borrow.Author.Tests.{leb-true, eqb-true, le-leb, lt-leb}
-use Rattle.lists.specs.Lists.{padded}
+use Rattle.lists.specs.Lists.{padded, cleared}
 use Rattle.lists.proofs.Choices.{eqb-passes, eqb-fails}
-use Rattle.lists.proofs.Tests.{both, true-of-T, false-of-T-not}
-use Rattle.poly.specs.Poly.{bit}
-use Rattle.order.specs.Order.{Order, orderQuestions}
-use Rattle.order.specs.Questions.{Question, firstNo, from-to, checkPolynomial, shapeQuestions, generatorQuestions, orderNumbers}
-use Rattle.order.proofs.Answers.{range}
-use Rattle.order.proofs.FirstNo.{AllYes, firstNo-none, firstNo-yes, firstNo-++, yes-of-firstNo}
-use Rattle.events.specs.Events.{events, eventsOfState, eventsOfLength, listed, eventTable}
-use Rattle.events.specs.Calls.{orderOf, collectQuestions}
-use Rattle.bounds.proofs.Placed.{lt-or-ge}
-use Rattle.paths.specs.Paths.{paths, wordsOfWeight, weights, plainCounts, pathTable, pathRoom}
-use Rattle.listing.proofs.Asked.{or-zero}
+use Rattle.lists.proofs.Tests.{true-of-T, false-of-T-not, lt-or-ge}
+use Rattle.order.specs.Order.{Order}
+use Rattle.order.specs.Answer.{Answer, accepted, refused, refusedWith}
+use Rattle.events.specs.Events.{events}
+use Rattle.paths.specs.Paths.{paths, plainCounts, pathTable, pathRoom}
 use Rattle.listing.specs.declared.Listed.{Listed}
 use Rattle.listing.specs.declared.Listed.the-variants as L
-use Rattle.listing.specs.Calls as Listing
-use Rattle.listing.specs.Calls.{listedAs, listQuestions, listCall, counted, cleared}
+use Rattle.listing.specs.Calls.{Listing, listing, listedAs, PathTables, pathTables, unlessTooMany, clearedPaths, filledPaths, listed}
+use Rattle.listing.proofs.Answers.{too-many-events, too-many-paths, all-fit}
 use Rattle.undetected.specs.Undetected.{undetectedCounts}
-use Rattle.undetected.specs.Steps.{Readable, Divisor, dividedCounts, countedFrom}
+use Rattle.undetected.specs.Model.Steps.{Readable, dividedCounts, countedFrom}
 use Rattle.undetected.proofs.Counts.{readable, divided-counts, length-dividedCounts, counted-all, counted-cleared}
 use Rattle.choice.specs.declared.Outcome.{Outcome}
 use Rattle.choice.specs.Choice.{choice}
-use Rattle.choice.specs.Steps.{laid, Chose}
+use Rattle.choice.specs.Model.Steps.{laid, Chose}
 use Rattle.choice.proofs.Left.{chosen-counts, chosen-one, chosen-tie}
+use Rattle.search.specs.declared.Searched.{Searched}
 use Rattle.search.specs.declared.Searched.the-variants as S
-use Rattle.search.specs.Calls.{Answer, found, refused, tied, searchedAs, Tables, allCleared, filled, searchQuestions, countQuestions, fitting, asked, chosen, searchCall, countCall}
-use Rattle.search.specs.Steps.{refusalOf, foundOf, answerOf}
+use Rattle.search.specs.declared.Job.{Job}
+use Rattle.search.specs.declared.Job.the-variants as J
+use Rattle.search.specs.Calls.{Found, found, searchedAs, SearchTables, searchTables, clearedSearch, filledSearch, chosen}
+use Rattle.search.specs.Model.Steps.{refusalOf, foundOf, answerOf, listedOf, Finished, ToFinish, jobDone, ran, ToRun}
 
--- ---- the questions
+-- ---- what the listing answered
 
-none-says-no : (qs : List Question) → AllYes qs → firstNo qs ≡ 0
-none-says-no [] all = firstNo-none
-none-says-no (q ∷ qs) all = firstNo-yes q qs (all .0) ∙ none-says-no qs (all .1)
-
--- what the questions let a call assume of its order and of the lengths of the lists
-pub record Accepted (o : Order) (plain undetected size : ℕ) : Type 0 where
-  pub listing : firstNo (listQuestions (o .generators) (o .v) (o .N) (o .d) plain size) ≡ 0
-  pub narrow : o .N ≤ 128
-  pub some-check : 1 ≤ o .m
-  pub small-check : o .m ≤ 12
-  pub plain-room : o .d ≤ plain
-  pub undetected-room : o .d ≤ undetected
-
-pub accepted-search : (o : Order) (plain undetected size : ℕ) → firstNo (searchQuestions o plain undetected size) ≡ 0 → Accepted o plain undetected size
-unfolding searchQuestions orderQuestions orderNumbers generatorQuestions listQuestions collectQuestions shapeQuestions
-accepted-search o plain undetected size none =
-    let all = yes-of-firstNo (searchQuestions o plain undetected size) (tt, (tt, (tt, (tt, (tt, (tt, (tt, (tt, (tt, (tt, tt)))))))))) none in
-    let five = range (o .v) 128 (o .N) (all .1 .1 .0) in
-    let six = range 1 12 (o .m) (both (from-to 1 12 (o .m)) (ltb (o .m) (o .N)) (all .1 .1 .1 .0) .0) in
-    let rest = all .1 .1 .1 .1 in
-    record {
-      listing = none-says-no (listQuestions (o .generators) (o .v) (o .N) (o .d) plain size) (all .0, (all .1 .0, (all .1 .1 .0, (rest .0, (rest .1 .0, (rest .1 .1 .0, (rest .1 .1 .1 .1 .1 .0, (rest .1 .1 .1 .0, tt))))))));
-      narrow = five .1;
-      some-check = six .0;
-      small-check = six .1;
-      plain-room = leb-true (o .d) plain (rest .1 .1 .1 .0);
-      undetected-room = leb-true (o .d) undetected (rest .1 .1 .1 .1 .0);
-    }
-
--- and of a polynomial
-module _ (o : Order) (p plain undetected size : ℕ) (none : firstNo (countQuestions o p plain undetected size) ≡ 0) where
-  parts-say-yes : (firstNo (searchQuestions o plain undetected size) ≡ 0) × (firstNo (checkPolynomial (o .m) p ∷ []) ≡ 0)
-  unfolding countQuestions searchQuestions orderQuestions orderNumbers generatorQuestions
-  parts-say-yes =
-      or-zero _ _ (sym (firstNo-++ (searchQuestions o plain undetected size) (checkPolynomial (o .m) p ∷ []) (tt, (tt, (tt, (tt, (tt, (tt, (tt, (tt, (tt, (tt, tt))))))))))) ∙ none)
-
-  pub accepted-count : Accepted o plain undetected size
-  accepted-count = accepted-search o plain undetected size (parts-say-yes .0)
-
-  pub divisor : Divisor (o .m) p
-  divisor =
-      let eleven = both (eqb (p / 2 ^ o .m) 1) (eqb (bit 0 p) 1) (yes-of-firstNo (checkPolynomial (o .m) p ∷ []) (tt, tt) (parts-say-yes .1) .0) in
-      (accepted-count .some-check, accepted-count .small-check, eqb-true (p / 2 ^ o .m) 1 (eleven .0))
-
--- ---- what the listing answered and left
-
+-- what the listing answers and leaves, and what a call does
 abbrev Ended : Type 0
-Ended = Listing.Answer × Listing.Tables
+Ended = Answer Listing × PathTables
 
--- it listed all
-pub record Whole (o : Order) (lent : Listing.Tables) (c : Listed) (left : Listing.Tables) : Type 0 where
-  pub events-fit : length (events o) ≤ length (lent .0)
-  pub paths-fit : length (paths o) ≤ length (lent .1 .0) / 2
-  pub answer : listedAs c ≡ Listing.listed (length (events o)) (length (paths o))
-  pub tables : left ≡ Listing.filled o lent
+abbrev Told : Type 0 → Type 0
+Told A = Answer A × SearchTables
 
-abbrev refusalIn : Listing.Answer → ℕ
-refusalIn (Listing.listed e k) = 0
-refusalIn (Listing.refused k) = k
+paired : {A : Type 0} {a b : Answer A} {x y : SearchTables} → a ≡ b → x ≡ y → _≡_ {A = Told A} (a, x) (b, y)
+paired e f = ap₂ (λ a x. (a, x)) e f
 
-refusal-told : (c : Listed) → refusalIn (listedAs c) ≡ refusalOf c
-refusal-told (L.Paths e k) = refl
-refusal-told (L.Refused k) = refl
+-- the listing's tables with an undetected list
+abbrev beside : PathTables → List ℕ → SearchTables
+beside x undetected = searchTables (x .events) (x .paths) (x .plain) undetected (x .work)
 
-module _ (o : Order) (lent : Listing.Tables) where
-  abbrev whole : Ended
-  whole = (Listing.listed (length (events o)) (length (paths o)), Listing.filled o lent)
+refusal-zero : (c : Listed) (x : Listing) → listedAs c ≡ accepted x → refusalOf c ≡ 0
+refusal-zero (L.Paths e k) x h = refl
+refusal-zero (L.Refused k) x h = cc
 
-  abbrev few : Ended
-  few = cond (leb (length (paths o)) (pathRoom (length (lent .1 .0)))) whole (Listing.refused 14, Listing.allCleared lent)
+refusal-is : (c : Listed) (k : ℕ) → listedAs c ≡ refused k → refusalOf c ≡ k
+refusal-is (L.Paths e k′) k h = cc
+refusal-is (L.Refused k′) k h = cc
 
-  same-counted : counted (orderOf (o .generators) (o .v) (o .N) (o .d)) lent ≡ counted o lent
-  unfolding counted Listing.filled eventTable events eventsOfState eventsOfLength listed pathTable paths wordsOfWeight weights plainCounts
-  same-counted = refl
+found-told : (c : Listed) (p e k : ℕ) → listedAs c ≡ accepted (listing e k) → searchedAs (foundOf c p) ≡ accepted (found e k p)
+found-told (L.Paths e′ k′) p e k h =
+    let same : _≡_ {A = Listing} (listing e′ k′) (listing e k) = cc in
+    ap (λ (x : Listing). accepted (found (x .events) (x .paths) p)) same
+found-told (L.Refused k′) p e k h = absurd (let z : _≡_ {A = ℕ} 0 1 = cc in omega arith)
 
-  module _ (none : firstNo (listQuestions (o .generators) (o .v) (o .N) (o .d) (length (lent .1 .1 .0)) (length (lent .1 .1 .1))) ≡ 0)
-      (c : Listed) (left : Listing.Tables) (told : _≡_ {A = Ended} (listedAs c, left) (listCall (o .generators) (o .v) (o .N) (o .d) lent)) where
-    decided : _≡_ {A = Ended} (listedAs c, left) (counted o lent)
-    unfolding listCall Listing.asked
-    decided = told ∙ ap (λ (k : ℕ). Listing.asked k (orderOf (o .generators) (o .v) (o .N) (o .d)) lent) none ∙ same-counted
+-- everything was listed
+pub record Whole (o : Order) (lent : PathTables) (c : Listed) (left : PathTables) : Type 0 where
+  pub events-fit : length (events o) ≤ length (lent .events)
+  pub paths-fit : length (paths o) ≤ pathRoom (length (lent .paths))
+  pub answer : listedAs c ≡ accepted (listing (length (events o)) (length (paths o)))
+  pub tables : left ≡ filledPaths o lent
 
-    as-13 : length (lent .0) < length (events o) → _≡_ {A = Ended} (listedAs c, left) (Listing.refused 13, Listing.allCleared lent)
-    unfolding counted
-    as-13 h = decided ∙ ap (λ (b : Bool). cond {A = Ended} b few (Listing.refused 13, Listing.allCleared lent)) (lt-leb (length (events o)) (length (lent .0)) h)
+module _ (o : Order) (t : SearchTables) (c : Listed) (left : PathTables) where
+  abbrev lent : PathTables
+  lent = pathTables (t .events) (t .paths) (t .plain) (t .work)
 
-    module _ (fits : length (events o) ≤ length (lent .0)) where
-      not-13 : _≡_ {A = Ended} (listedAs c, left) few
-      unfolding counted
-      not-13 = decided ∙ ap (λ (b : Bool). cond {A = Ended} b few (Listing.refused 13, Listing.allCleared lent)) (le-leb (length (events o)) (length (lent .0)) fits)
+  abbrev ne : ℕ
+  ne = length (t .events)
 
-      as-14 : length (lent .1 .0) / 2 < length (paths o) → _≡_ {A = Ended} (listedAs c, left) (Listing.refused 14, Listing.allCleared lent)
-      unfolding pathRoom
-      as-14 h = not-13 ∙ ap (λ (b : Bool). cond {A = Ended} b whole (Listing.refused 14, Listing.allCleared lent)) (lt-leb (length (paths o)) (length (lent .1 .0) / 2) h)
+  abbrev np : ℕ
+  np = length (t .paths)
 
-      as-whole : length (paths o) ≤ length (lent .1 .0) / 2 → _≡_ {A = Ended} (listedAs c, left) whole
-      unfolding pathRoom
-      as-whole h = not-13 ∙ ap (λ (b : Bool). cond {A = Ended} b whole (Listing.refused 14, Listing.allCleared lent)) (le-leb (length (paths o)) (length (lent .1 .0) / 2) h)
+  -- the listing ended so
+  abbrev Ends : Answer Listing → PathTables → Type 0
+  Ends a x = _≡_ {A = Ended} (listedAs c, left) (a, x)
 
-    refusal-is : (y : Ended) → _≡_ {A = Ended} (listedAs c, left) y → refusalOf c ≡ refusalIn (y .0)
-    refusal-is y e = sym (refusal-told c) ∙ ap (λ (x : Ended). refusalIn (x .0)) e
+  answer-of : {a : Answer Listing} {x : PathTables} → Ends a x → listedAs c ≡ a
+  answer-of e = ap (λ (y : Ended). y .0) e
+
+  tables-of : {a : Answer Listing} {x : PathTables} → Ends a x → left ≡ x
+  tables-of e = ap (λ (y : Ended). y .1) e
+
+  module _ (told : _≡_ {A = Ended} (listedAs c, left) (listed o lent)) where
+    as-13 : ne < length (events o) → Ends (refused 13) (clearedPaths lent)
+    unfolding listed
+    as-13 h = told ∙ sym (too-many-events o ne np (clearedPaths lent) _ h)
+
+    as-14 : length (events o) ≤ ne → pathRoom np < length (paths o) → Ends (refused 14) (clearedPaths lent)
+    unfolding listed
+    as-14 f h = told ∙ sym (too-many-paths o ne np (clearedPaths lent) _ f h)
+
+    as-whole : length (events o) ≤ ne → length (paths o) ≤ pathRoom np
+        → Ends (accepted (listing (length (events o)) (length (paths o)))) (filledPaths o lent)
+    unfolding listed
+    as-whole f h = told ∙ sym (all-fit o ne np (clearedPaths lent) _ f h)
 
     pub listed-whole : refusalOf c ≡ 0 → Whole o lent c left
-    listed-whole zero-told = elim (lt-or-ge (length (lent .0)) (length (events o))) [
-      | inl more ↦ let k = refusal-is _ (as-13 more) in absurd (omega arith)
-      | inr fits ↦ elim (lt-or-ge (length (lent .1 .0) / 2) (length (paths o))) [
-        | inl more ↦ let k = refusal-is _ (as-14 fits more) in absurd (omega arith)
-        | inr room ↦ let e = as-whole fits room in record { events-fit = fits; paths-fit = room; answer = ap (λ (y : Ended). y .0) e; tables = ap (λ (y : Ended). y .1) e }
+    listed-whole zero-told = elim (lt-or-ge ne (length (events o))) [
+      | inl more ↦ let k = refusal-is c 13 (answer-of (as-13 more)) in absurd (omega arith)
+      | inr fits ↦ elim (lt-or-ge (pathRoom np) (length (paths o))) [
+        | inl more ↦ let k = refusal-is c 14 (answer-of (as-14 fits more)) in absurd (omega arith)
+        | inr room ↦
+            let e = as-whole fits room in
+            record { events-fit = fits; paths-fit = room; answer = answer-of e; tables = tables-of e }
       ]
     ]
 
--- ---- questions 13 and 14, of a call of either kind
-
-module _ (o : Order) (t : Tables) {A : Type 0} (refusal : ℕ → A) (accepted : A × Tables) (why : ℕ) where
-  asked-no : (r : ℕ) → r ≡ why → (r ≡ 0 → ⊥) → _≡_ {A = A × Tables} (refusal r, t) (asked refusal why o t accepted)
-  unfolding asked
-  asked-no r e n = by why r e n
-    where
-      by : (k s : ℕ) → s ≡ k → (s ≡ 0 → ⊥) → _≡_ {A = A × Tables} (refusal s, t) (asked refusal k o t accepted)
-      by zero s f m = absurd (m f)
-      by (suc k) s f m = ap (λ (x : ℕ). (refusal x, t)) f
-
-  module _ (none : why ≡ 0) where
-    abbrev fewPaths : A × Tables
-    fewPaths = cond (leb (length (paths o)) (pathRoom (length (t .0 .1 .0)))) accepted (refusal 14, allCleared t)
-
-    asked-yes : (x : A × Tables) → x ≡ cond (leb (length (events o)) (length (t .0 .0))) fewPaths (refusal 13, allCleared t) → x ≡ asked refusal why o t accepted
-    unfolding asked fitting
-    asked-yes x e = e ∙ ap (λ (k : ℕ). asked refusal k o t accepted) (sym none)
-
-    is-13 : length (t .0 .0) < length (events o) → _≡_ {A = A × Tables} (refusal 13, allCleared t) (asked refusal why o t accepted)
-    is-13 h = asked-yes _ (sym (ap (λ (b : Bool). cond {A = A × Tables} b fewPaths (refusal 13, allCleared t)) (lt-leb (length (events o)) (length (t .0 .0)) h)))
-
-    module _ (fits : length (events o) ≤ length (t .0 .0)) where
-      past-13 : (x : A × Tables) → x ≡ fewPaths → x ≡ asked refusal why o t accepted
-      past-13 x e = asked-yes x (e ∙ sym (ap (λ (b : Bool). cond {A = A × Tables} b fewPaths (refusal 13, allCleared t)) (le-leb (length (events o)) (length (t .0 .0)) fits)))
-
-      is-14 : length (t .0 .1 .0) / 2 < length (paths o) → _≡_ {A = A × Tables} (refusal 14, allCleared t) (asked refusal why o t accepted)
-      unfolding pathRoom
-      is-14 h = past-13 _ (sym (ap (λ (b : Bool). cond {A = A × Tables} b accepted (refusal 14, allCleared t)) (lt-leb (length (paths o)) (length (t .0 .1 .0) / 2) h)))
-
-      is-accepted : length (paths o) ≤ length (t .0 .1 .0) / 2 → accepted ≡ asked refusal why o t accepted
-      unfolding pathRoom
-      is-accepted h = past-13 accepted (sym (ap (λ (b : Bool). cond {A = A × Tables} b accepted (refusal 14, allCleared t)) (le-leb (length (paths o)) (length (t .0 .1 .0) / 2) h)))
-
     -- a refusal of the listing is the call's, and all that is lent is zero
-    module _ (acc : Accepted o (length (t .0 .1 .1 .0)) (length (t .1)) (length (t .0 .1 .1 .1))) (c : Listed) (left : Listing.Tables)
-        (told : _≡_ {A = Ended} (listedAs c, left) (listCall (o .generators) (o .v) (o .N) (o .d) (t .0))) (after : List ℕ) (zeros : after ≡ replicate (length (t .1)) 0) where
-      cleared-all : (k : ℕ) → _≡_ {A = Ended} (listedAs c, left) (Listing.refused k, Listing.allCleared (t .0)) → _≡_ {A = A × Tables} (refusal (refusalOf c), (left, after)) (refusal k, allCleared t)
-      unfolding allCleared cleared
+    module _ {A : Type 0} (outcome : Told A) (after : List ℕ) (zeros : after ≡ replicate (length (t .undetected)) 0) where
+      cleared-all : (k : ℕ) → Ends (refused k) (clearedPaths lent)
+          → _≡_ {A = Told A} (refused (refusalOf c), beside left after) (refused k, clearedSearch t)
+      unfolding clearedSearch clearedPaths cleared
       cleared-all k e =
-          ap (λ (x : ℕ). (refusal x, (left, after))) (refusal-is o (t .0) (acc .listing) c left told _ e)
-          ∙ ap₂ (λ (x : Listing.Tables) (y : List ℕ). (refusal k, (x, y))) (ap (λ (y : Ended). y .1) e) zeros
+          paired (ap refused (refusal-is c k (answer-of e))) (ap₂ beside (tables-of e) zeros)
 
-      not-listed : (refusalOf c ≡ 0 → ⊥) → _≡_ {A = A × Tables} (refusal (refusalOf c), (left, after)) (asked refusal why o t accepted)
-      not-listed some-no = elim (lt-or-ge (length (t .0 .0)) (length (events o))) [
-        | inl more ↦ cleared-all 13 (as-13 o (t .0) (acc .listing) c left told more) ∙ is-13 more
-        | inr fits ↦ elim (lt-or-ge (length (t .0 .1 .0) / 2) (length (paths o))) [
-          | inl more ↦ cleared-all 14 (as-14 o (t .0) (acc .listing) c left told fits more) ∙ is-14 fits more
-          | inr room ↦ absurd (some-no (refusal-is o (t .0) (acc .listing) c left told _ (as-whole o (t .0) (acc .listing) c left told fits room)))
+      pub not-listed : (refusalOf c ≡ 0 → ⊥)
+          → _≡_ {A = Told A} (refused (refusalOf c), beside left after) (unlessTooMany o ne np (clearedSearch t) outcome)
+      not-listed some-no = elim (lt-or-ge ne (length (events o))) [
+        | inl more ↦ cleared-all 13 (as-13 more) ∙ too-many-events o ne np (clearedSearch t) outcome more
+        | inr fits ↦ elim (lt-or-ge (pathRoom np) (length (paths o))) [
+          | inl more ↦ cleared-all 14 (as-14 fits more) ∙ too-many-paths o ne np (clearedSearch t) outcome fits more
+          | inr room ↦ absurd (some-no (refusal-zero c _ (answer-of (as-whole fits room))))
         ]
       ]
 
--- ---- what is counted over the tables that a whole listing left
+  -- ---- what is counted over the tables that a whole listing left
 
-module _ (o : Order) (t : Tables) (acc : Accepted o (length (t .0 .1 .1 .0)) (length (t .1)) (length (t .0 .1 .1 .1))) (c : Listed) (left : Listing.Tables) (all : Whole o (t .0) c left) where
-  abbrev np : ℕ
-  np = length (t .0 .1 .0)
+  module _ (job : Job) (may : ToRun job o (t .plain) (t .undetected) (t .work)) (all : Whole o lent c left) where
+    abbrev nc : ℕ
+    nc = length (t .plain)
 
-  abbrev nc : ℕ
-  nc = length (t .0 .1 .1 .0)
+    abbrev nu : ℕ
+    nu = length (t .undetected)
 
-  abbrev nu : ℕ
-  nu = length (t .1)
+    abbrev table : List ℕ
+    table = left .paths
 
-  abbrev table : List ℕ
-  table = left .1 .0
+    abbrev plain : List ℕ
+    plain = left .plain
 
-  abbrev plain : List ℕ
-  plain = left .1 .1 .0
+    is-table : table ≡ pathTable np o
+    unfolding filledPaths
+    is-table = ap (λ (x : PathTables). x .paths) (all .tables)
 
-  is-table : table ≡ pathTable np o
-  unfolding Listing.filled
-  is-table = ap (λ (x : Listing.Tables). x .1 .0) (all .tables)
+    is-plain : plain ≡ padded nc 0 (plainCounts o)
+    unfolding filledPaths
+    is-plain = ap (λ (x : PathTables). x .plain) (all .tables)
 
-  is-plain : plain ≡ padded nc 0 (plainCounts o)
-  unfolding Listing.filled
-  is-plain = ap (λ (x : Listing.Tables). x .1 .1 .0) (all .tables)
+    readable-left : Readable (o .N) (o .d) table plain
+    unfolding pathRoom
+    readable-left =
+        let h = all .paths-fit in
+        let room : 2 * length (paths o) ≤ np = omega arith in
+        rw (is-table, is-plain) (readable o np nc (may .order .order .code .at-most-128) (may .plain-room) room)
 
-  pub readable-left : Readable (o .N) (o .d) table plain
-  readable-left =
-      let h = all .paths-fit in
-      let room : 2 * length (paths o) ≤ np = omega arith in
-      subst (λ (l : List ℕ). Readable (o .N) (o .d) l plain) (sym is-table)
-      (subst (λ (l : List ℕ). Readable (o .N) (o .d) (pathTable np o) l) (sym is-plain) (readable o np nc (acc .narrow) (acc .plain-room) room))
+    pub to-finish : (undetected : List ℕ) → length undetected ≡ nu → ToFinish job (o .N) (o .m) (o .d) table plain undetected
+    to-finish undetected e = record {
+      choose = record {
+        readable = readable-left;
+        degree = record { some-degree = may .order .degree .some-degree; at-most-12 = may .order .degree .at-most-12 };
+        counts = rw e (may .undetected-room);
+      };
+      job-fits = may .job-fits;
+    }
 
-  divided-left : (p : ℕ) → dividedCounts (o .m) table plain (o .d) p ≡ undetectedCounts o p
-  divided-left p = ap₂ (λ (x y : List ℕ). dividedCounts (o .m) x y (o .d) p) is-table is-plain ∙ divided-counts o np nc p
+    divided-left : (p : ℕ) → dividedCounts (o .m) table plain (o .d) p ≡ undetectedCounts o p
+    divided-left p = ap₂ (λ (x y : List ℕ). dividedCounts (o .m) x y (o .d) p) is-table is-plain ∙ divided-counts o np nc p
 
-  -- in a list of zeros: as counting leaves it, and as the choice does
-  module _ (before : List ℕ) (zeros : before ≡ replicate nu 0) (p : ℕ) where
-    counted-left : countedFrom (o .m) p table plain 0 (o .d) before ≡ padded nu 0 (undetectedCounts o p)
-    counted-left =
-        ap (countedFrom (o .m) p table plain 0 (o .d)) zeros ∙ counted-cleared (o .m) p table plain (o .d) nu (acc .undetected-room) ∙ ap (padded nu 0) (divided-left p)
+    -- in a list of zeros: as counting leaves it, and as the choice does
+    module _ (before after : List ℕ) (zeros : before ≡ replicate nu 0) where
+      counted-left : (p : ℕ) → countedFrom (o .m) p table plain 0 (o .d) before ≡ padded nu 0 (undetectedCounts o p)
+      counted-left p =
+          ap (countedFrom (o .m) p table plain 0 (o .d)) zeros
+          ∙ counted-cleared (o .m) p table plain (o .d) nu (may .undetected-room) ∙ ap (padded nu 0) (divided-left p)
 
-    laid-left : laid (undetectedCounts o p) before ≡ padded nu 0 (undetectedCounts o p)
-    unfolding laid
-    laid-left =
-        ap (λ (l : List ℕ). laid l before) (sym (divided-left p))
-        ∙ ap (λ (k : ℕ). dividedCounts (o .m) table plain (o .d) p ++ drop k before) (length-dividedCounts (o .m) p table plain (o .d))
-        ∙ sym (counted-all (o .m) p table plain (o .d) before) ∙ counted-left
+      laid-left : (p : ℕ) → laid (undetectedCounts o p) before ≡ padded nu 0 (undetectedCounts o p)
+      unfolding laid
+      laid-left p =
+          ap (λ (l : List ℕ). laid l before) (sym (divided-left p))
+          ∙ ap (λ (k : ℕ). dividedCounts (o .m) table plain (o .d) p ++ drop k before) (length-dividedCounts (o .m) p table plain (o .d))
+          ∙ sym (counted-all (o .m) p table plain (o .d) before) ∙ counted-left p
 
--- ---- the search
+      abbrev done : SearchTables
+      done = beside left after
 
--- the listing's answer with a polynomial
-abbrev foundIn : Listing.Answer → ℕ → Answer
-foundIn (Listing.listed e k) p = found e k p
-foundIn (Listing.refused k) p = refused k
+      tables-left : (counts : List ℕ) → after ≡ padded nu 0 counts → done ≡ filledSearch o counts t
+      unfolding filledSearch filledPaths
+      tables-left counts e = ap₂ beside (all .tables) e
 
-found-told : (c : Listed) (p : ℕ) → searchedAs (foundOf c p) ≡ foundIn (listedAs c) p
-found-told (L.Paths e k) p = refl
-found-told (L.Refused k) p = refl
+      -- question 15: one is left, or several
+      module _ (r : Outcome) (chose : Chose (o .m) (o .d) table plain before after r) where
+        chosen-left : done ≡ filledSearch o (undetectedCounts o (r .polynomial)) t
+        chosen-left = tables-left _ (chosen-counts o divided-left chose ∙ laid-left (r .polynomial))
 
-module _ (o : Order) (t : Tables) where
-  abbrev searchWhy : ℕ
-  searchWhy = firstNo (searchQuestions o (length (t .0 .1 .1 .0)) (length (t .1)) (length (t .0 .1 .1 .1)))
+        -- the answer, by whether one is left
+        abbrev by : Bool → Answer Found
+        by b = searchedAs (cond b (foundOf c (r .polynomial)) (S.Tied (r .left)))
 
-  pub search-refused : (r : ℕ) → r ≡ searchWhy → (r ≡ 0 → ⊥) → _≡_ {A = Answer × Tables} (refused r, t) (searchCall o t)
-  unfolding searchCall
-  search-refused = asked-no o t refused (chosen o t (choice o)) searchWhy
+        one-told : r .left ≡ 1 → searchedAs (answerOf c r) ≡ accepted (found (length (events o)) (length (paths o)) (r .polynomial))
+        unfolding answerOf
+        one-told e =
+            ap by (true-of-T (eqb (r .left) 1) (eqb-passes (r .left) 1 e)) ∙ found-told c (r .polynomial) _ _ (all .answer)
 
-  module _ (none : searchWhy ≡ 0) (acc : Accepted o (length (t .0 .1 .1 .0)) (length (t .1)) (length (t .0 .1 .1 .1))) (c : Listed) (left : Listing.Tables) where
-    pub search-not-listed : _≡_ {A = Ended} (listedAs c, left) (listCall (o .generators) (o .v) (o .N) (o .d) (t .0)) → (after : List ℕ) → after ≡ replicate (length (t .1)) 0 → (refusalOf c ≡ 0 → ⊥)
-        → _≡_ {A = Answer × Tables} (refused (refusalOf c), (left, after)) (searchCall o t)
-    unfolding searchCall
-    search-not-listed = not-listed o t refused (chosen o t (choice o)) searchWhy none acc c left
+        several-told : r .left ≢ 1 → searchedAs (answerOf c r) ≡ refusedWith 15 (r .left)
+        unfolding answerOf
+        several-told n = ap by (false-of-T-not (eqb (r .left) 1) (eqb-fails (r .left) 1 n))
 
-    -- question 15: one is left, or several
-    module _ (all : Whole o (t .0) c left) (before after : List ℕ) (r : Outcome) (zeros : before ≡ replicate (length (t .1)) 0) (chose : Chose (o .m) (o .d) (left .1 .0) (left .1 .1 .0) before after r) where
-      tables-left : _≡_ {A = Tables} (left, after) (filled o (undetectedCounts o (r .polynomial)) t)
-      unfolding filled
-      tables-left =
-          ap₂ (λ (x : Listing.Tables) (y : List ℕ). (x, y)) (all .tables)
-          (chosen-counts o (o .m) (o .d) (left .1 .0) (left .1 .1 .0) refl (divided-left o t acc c left all) before after r chose ∙ laid-left o t acc c left all before zeros (r .polynomial))
+        is-chosen : _≡_ {A = Told Found} (searchedAs (answerOf c r), done) (chosen o t (choice o))
+        unfolding chosen
+        is-chosen = elim (ℕ-discrete (r .left) 1) [
+          | yes e ↦ paired (one-told e) chosen-left ∙ ap (chosen o t) (sym (chosen-one o divided-left chose e))
+          | no n ↦ paired (several-told n) chosen-left ∙ ap (chosen o t) (sym (chosen-tie o divided-left chose n))
+        ]
 
-      one-told : r .left ≡ 1 → searchedAs (answerOf c r) ≡ found (length (events o)) (length (paths o)) (r .polynomial)
-      unfolding answerOf
-      one-told e =
-          ap (λ (b : Bool). searchedAs (cond b (foundOf c (r .polynomial)) (S.Tied (r .left)))) (true-of-T (eqb (r .left) 1) (eqb-passes (r .left) 1 e))
-          ∙ found-told c (r .polynomial) ∙ ap (λ (a : Listing.Answer). foundIn a (r .polynomial)) (all .answer)
+      -- the job is done
+      is-done : (s : Searched) (j : Job) → Finished j (o .m) (o .d) c table plain before after s
+          → _≡_ {A = Told Found} (searchedAs s, done) (jobDone j o t)
+      unfolding Finished jobDone
+      is-done s J.Choose (x, chose, e) = ap (λ (y : Searched). (searchedAs y, done)) e ∙ is-chosen x chose
+      is-done s (J.Count p) (counts, e) =
+          paired (ap searchedAs e ∙ found-told c p _ _ (all .answer)) (tables-left _ (counts ∙ counted-left p))
 
-      several-told : r .left ≢ 1 → searchedAs (answerOf c r) ≡ tied (r .left)
-      unfolding answerOf
-      several-told n = ap (λ (b : Bool). searchedAs (cond b (foundOf c (r .polynomial)) (S.Tied (r .left)))) (false-of-T-not (eqb (r .left) 1) (eqb-fails (r .left) 1 n))
+      pub ran-done : (s : Searched) → Finished job (o .m) (o .d) c table plain before after s
+          → _≡_ {A = Told Found} (searchedAs s, done) (ran job o t)
+      unfolding ran
+      ran-done s f = is-done s job f ∙ all-fit o ne np (clearedSearch t) (jobDone job o t) (all .events-fit) (all .paths-fit)
 
-      abbrev answered : Answer × Tables
-      answered = (searchedAs (answerOf c r), (left, after))
+-- ---- the counting: its answer is the listing's
 
-      is-chosen : answered ≡ chosen o t (choice o)
-      unfolding chosen
-      is-chosen = elim (ℕ-discrete (r .left) 1) [
-        | yes e ↦ ap₂ (λ (a : Answer) (x : Tables). (a, x)) (one-told e) tables-left ∙ ap (chosen o t) (sym (chosen-one o (o .m) (o .d) (left .1 .0) (left .1 .1 .0) refl (divided-left o t acc c left all) before after r chose e))
-        | no n ↦ ap₂ (λ (a : Answer) (x : Tables). (a, x)) (several-told n) tables-left ∙ ap (chosen o t) (sym (chosen-tie o (o .m) (o .d) (left .1 .0) (left .1 .1 .0) refl (divided-left o t acc c left all) before after r chose n))
-      ]
+abbrev forget : Answer Found → Answer Listing
+forget (accepted f) = accepted (listing (f .events) (f .paths))
+forget (refused k) = refused k
+forget (refusedWith k added) = refused k
 
-      pub search-chosen : answered ≡ searchCall o t
-      unfolding searchCall
-      search-chosen = is-chosen ∙ is-accepted o t refused (chosen o t (choice o)) searchWhy none (all .events-fit) (all .paths-fit)
+forget-told : (r : Searched) → listedAs (listedOf r) ≡ forget (searchedAs r)
+forget-told (S.Found e k p) = refl
+forget-told (S.Refused k) = refl
+forget-told (S.Tied left) = refl
 
--- ---- the counting
+abbrev forgetting : Told Found → Told Listing
+forgetting (a, x) = (forget a, x)
 
-module _ (o : Order) (p : ℕ) (t : Tables) where
-  abbrev countWhy : ℕ
-  countWhy = firstNo (countQuestions o p (length (t .0 .1 .1 .0)) (length (t .1)) (length (t .0 .1 .1 .1)))
+module _ (o : Order) (ne np : ℕ) (zeros : SearchTables) (outcome : Told Found) where
+  forget-13-14 : forgetting (unlessTooMany o ne np zeros outcome) ≡ unlessTooMany o ne np zeros (forgetting outcome)
+  forget-13-14 = elim (lt-or-ge ne (length (events o))) [
+    | inl more ↦ ap forgetting (sym (too-many-events o ne np zeros outcome more)) ∙ too-many-events o ne np zeros (forgetting outcome) more
+    | inr fits ↦ elim (lt-or-ge (pathRoom np) (length (paths o))) [
+      | inl more ↦
+          ap forgetting (sym (too-many-paths o ne np zeros outcome fits more))
+          ∙ too-many-paths o ne np zeros (forgetting outcome) fits more
+      | inr room ↦ ap forgetting (sym (all-fit o ne np zeros outcome fits room)) ∙ all-fit o ne np zeros (forgetting outcome) fits room
+    ]
+  ]
 
-  abbrev countedAs : Listing.Answer × Tables
-  countedAs = (Listing.listed (length (events o)) (length (paths o)), filled o (undetectedCounts o p) t)
-
-  pub count-refused : (r : ℕ) → r ≡ countWhy → (r ≡ 0 → ⊥) → _≡_ {A = Listing.Answer × Tables} (Listing.refused r, t) (countCall o p t)
-  unfolding countCall
-  count-refused = asked-no o t Listing.refused countedAs countWhy
-
-  module _ (none : countWhy ≡ 0) (acc : Accepted o (length (t .0 .1 .1 .0)) (length (t .1)) (length (t .0 .1 .1 .1))) (c : Listed) (left : Listing.Tables) where
-    pub count-not-listed : _≡_ {A = Ended} (listedAs c, left) (listCall (o .generators) (o .v) (o .N) (o .d) (t .0)) → (after : List ℕ) → after ≡ replicate (length (t .1)) 0 → (refusalOf c ≡ 0 → ⊥)
-        → _≡_ {A = Listing.Answer × Tables} (Listing.refused (refusalOf c), (left, after)) (countCall o p t)
-    unfolding countCall
-    count-not-listed = not-listed o t Listing.refused countedAs countWhy none acc c left
-
-    pub count-counted : Whole o (t .0) c left → (before after : List ℕ) → before ≡ replicate (length (t .1)) 0 → after ≡ countedFrom (o .m) p (left .1 .0) (left .1 .1 .0) 0 (o .d) before
-        → _≡_ {A = Listing.Answer × Tables} (listedAs c, (left, after)) (countCall o p t)
-    unfolding countCall filled
-    count-counted all before after zeros counts =
-        ap (λ (x : Listing.Answer). (x, (left, after))) (all .answer)
-        ∙ ap₂ (λ (x : Listing.Tables) (y : List ℕ). (Listing.listed (length (events o)) (length (paths o)), (x, y))) (all .tables) (counts ∙ counted-left o t acc c left all before zeros p)
-        ∙ is-accepted o t Listing.refused countedAs countWhy none (all .events-fit) (all .paths-fit)
+pub counted-as : (o : Order) (p : ℕ) (t left : SearchTables) (r : Searched)
+    → _≡_ {A = Told Found} (searchedAs r, left) (ran (J.Count p) o t)
+    → _≡_ {A = Told Listing} (listedAs (listedOf r), left)
+    (unlessTooMany o (length (t .events)) (length (t .paths)) (clearedSearch t)
+    (accepted (listing (length (events o)) (length (paths o))), filledSearch o (undetectedCounts o p) t))
+unfolding ran jobDone
+counted-as o p t left r e =
+    ap (λ (a : Answer Listing). (a, left)) (forget-told r) ∙ ap forgetting e
+    ∙ forget-13-14 o (length (t .events)) (length (t .paths)) (clearedSearch t) _

@@ -1,4 +1,4 @@
-pub mod Asked
-pub mod Demand
 pub mod Answers
-pub mod Walked
+pub mod Accepts
+pub mod Demand
+pub mod Plains

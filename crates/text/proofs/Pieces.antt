@@ -3,19 +3,20 @@
 use Prim.Native.Nat.{ℕ, _+_, _≤_, _<_}
 use native.Mathlib.Numerals.{add-one}
 use native.Mathlib.Omega.{arith}
-use mathlib.Core.Path.{_≡_, ap, ap₂, _∙_}
+use mathlib.Core.Path.{_≡_, sym, ap, ap₂, _∙_}
 use mathlib.Core.Bool.{Bool, cond}
 use mathlib.Core.List.{List, [], _∷_, _++_, map, flatMap, append-nil, append-assoc}
 use borrow.Author.Tests.{eq-eqb, ne-eqb}
 use lib.ListN.{length, getD, take}
-use lib.Seq.{take-suc, length-take-le}
+use lib.Seq.{take-suc}
 use Rattle.lists.specs.Lists.{upFrom}
 use Rattle.lists.proofs.Lengths.{upFrom-last}
 use Rattle.lists.proofs.Blocks.{flatMap-one, flatMap-append, flatMap-map}
 use Rattle.order.specs.declared.record.OrderRecord.{OrderRecord}
 use Rattle.text.specs.Text.{numeral, decimal, octal, hexadecimal, line, wORDER, wCRC, wNO, orderLine, refusalText}
-use Rattle.text.specs.Calls.{orderIn}
-use Rattle.text.specs.Steps.{spaced}
+use Rattle.order.specs.Answers.{orderIn}
+use Rattle.order.proofs.Asked.{length-orderIn, generators-in}
+use Rattle.text.specs.Model.Steps.{spaced}
 
 -- ---- blocks one after another: one more
 
@@ -46,21 +47,21 @@ polynomial-line p = ap (λ (l : List ℕ). 67 ∷ 82 ∷ 67 ∷ 32 ∷ 48 ∷ 12
 
 pub order-line : (o : OrderRecord) → o .n ≤ 4
     → orderLine (orderIn o) ≡ wORDER ++ (spaced 10 (o .n ∷ o .v ∷ o .bits ∷ o .m ∷ o .d ∷ []) ++ (spaced 8 (take (o .n) (o .g1 ∷ o .g2 ∷ o .g3 ∷ o .g4 ∷ [])) ++ (10 ∷ [])))
-unfolding orderLine line decimal octal spaced
+unfolding orderLine line decimal octal spaced orderIn
 order-line o h =
-    ap (λ (l : List ℕ). wORDER ++ (l ++ (10 ∷ []))) words ∙ ap (λ (l : List ℕ). wORDER ++ l) (append-assoc (spaced 10 (numbers (o .n))) (spaced 8 generators) (10 ∷ []))
+    ap (λ (l : List ℕ). wORDER ++ (l ++ (10 ∷ []))) words ∙ ap (λ (l : List ℕ). wORDER ++ l) (append-assoc (spaced 10 (numbers (o .n))) (spaced 8 four) (10 ∷ []))
   where
-    generators : List ℕ
-    generators = take (o .n) (o .g1 ∷ o .g2 ∷ o .g3 ∷ o .g4 ∷ [])
+    four : List ℕ
+    four = take (o .n) (o .g1 ∷ o .g2 ∷ o .g3 ∷ o .g4 ∷ [])
 
     numbers : ℕ → List ℕ
     numbers n = n ∷ o .v ∷ o .bits ∷ o .m ∷ o .d ∷ []
 
-    words : flatMap (λ w. 32 ∷ w) (map decimal (numbers (length generators)) ++ map octal generators) ≡ spaced 10 (numbers (o .n)) ++ spaced 8 generators
+    words : flatMap (λ w. 32 ∷ w) (map decimal (numbers (length (orderIn o .generators))) ++ map octal (orderIn o .generators)) ≡ spaced 10 (numbers (o .n)) ++ spaced 8 four
     words =
-        flatMap-append (λ w. 32 ∷ w) (map decimal (numbers (length generators))) (map octal generators)
-        ∙ ap₂ _++_ (flatMap-map (λ w. 32 ∷ w) decimal (numbers (length generators)) ∙ ap (λ (n : ℕ). spaced 10 (numbers n)) (length-take-le (o .n) _ h))
-        (flatMap-map (λ w. 32 ∷ w) octal generators)
+        flatMap-append (λ w. 32 ∷ w) (map decimal (numbers (length (orderIn o .generators)))) (map octal (orderIn o .generators))
+        ∙ ap₂ _++_ (flatMap-map (λ w. 32 ∷ w) decimal (numbers (length (orderIn o .generators))) ∙ ap (λ (n : ℕ). spaced 10 (numbers n)) (length-orderIn o))
+        (flatMap-map (λ w. 32 ∷ w) octal (orderIn o .generators) ∙ ap (spaced 8) (sym (generators-in o h)))
 
 -- ---- refusals
 

@@ -9,7 +9,7 @@ use lib.ListN.{length, set, length-append}
 use lib.Seq.{sets, length-sets}
 use Rattle.lists.proofs.Stores.{sets-append}
 use Rattle.text.specs.Text.{digit, numeral}
-use Rattle.text.specs.Steps.{Put}
+use Rattle.text.specs.Model.Steps.{Put}
 use Rattle.text.proofs.Numerals.{numeral-one, numeral-more}
 
 pub put-none : (l : List ℕ) (at : ℕ) → Put 0 l at [] l at

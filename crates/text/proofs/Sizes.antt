@@ -6,7 +6,7 @@ use mathlib.Core.Path.{_≡_, ap}
 use mathlib.Core.List.{List, [], _∷_, flatMap}
 use lib.ListN.{length, getD, length-append}
 use Rattle.text.specs.Text.{numeral, wA, countLine}
-use Rattle.text.specs.Steps.{spaced}
+use Rattle.text.specs.Model.Steps.{spaced}
 use Rattle.text.proofs.Numerals.{numeral-short}
 use Rattle.text.proofs.Pieces.{decimal-line}
 

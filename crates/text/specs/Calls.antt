@@ -1,12 +1,12 @@
 -- What the calls that make text answer and leave, for every input. Their questions are 3, 7 and 10 of document 01, as far as they take the values.
 -- Assumes nothing.
-use Prim.Native.Nat.{ℕ, zero, suc}
+use Prim.Native.Nat.{ℕ}
 use mathlib.Core.List.{List, [], _∷_}
-use lib.ListN.{length, take}
+use lib.ListN.{length}
 use Rattle.lists.specs.Lists.{padded}
 use Rattle.order.specs.Questions.{Question, firstNo, generatorCount, threshold, room}
 use Rattle.order.specs.Order.{Order}
-use Rattle.order.specs.declared.record.OrderRecord.{OrderRecord}
+use Rattle.order.specs.Answer.{Answer, accepted, refused, unlessRefused}
 use Rattle.text.specs.Text.{rowText, refusalText}
 use Rattle.text.specs.declared.Written.{Written}
 use Rattle.text.specs.declared.Written.the-variants as W
@@ -15,30 +15,24 @@ use Rattle.text.specs.declared.Written.the-variants as W
 unfoldable pub textSize : ℕ
 textSize = 4096
 
--- what the call answers: the text's length, or the number of a refusal
-pub data Answer : Type 0 where
-  written : ℕ → Answer
-  refused : ℕ → Answer
-
-abbrev pub writtenAs : Written → Answer
-writtenAs (W.Bytes n) = written n
+-- what the call answers: the text's length
+abbrev pub writtenAs : Written → Answer ℕ
+writtenAs (W.Bytes n) = accepted n
 writtenAs (W.Refused k) = refused k
 
--- the order that a record struct tells, of the first n generators
-abbrev pub orderIn : OrderRecord → Order
-orderIn r = record { v = r .v; N = r .bits; m = r .m; d = r .d; generators = take (r .n) (r .g1 ∷ r .g2 ∷ r .g3 ∷ r .g4 ∷ []) }
+-- the text with zeros after it
+unfoldable pub laidOut : List ℕ → List ℕ → Answer ℕ × List ℕ
+laidOut text buffer = (accepted (length text), padded (length buffer) 0 text)
 
--- the text with zeros after it; a refusal changes nothing
-unfoldable pub writtenOr : ℕ → List ℕ → List ℕ → Answer × List ℕ
-writtenOr zero text buffer = (written (length text), padded (length buffer) 0 text)
-writtenOr (suc k) text buffer = (refused (suc k), buffer)
+-- Of an order only n and d are asked about: a row is printed as it is told, for an order that a call has accepted before. This is the one call that
+-- does not ask all questions about the values that it takes.
+unfoldable pub rowQuestions : (n d plain undetected size : ℕ) → List Question
+rowQuestions n d plain undetected size = generatorCount n ∷ threshold d ∷ room d plain ∷ room d undetected ∷ room textSize size ∷ []
 
-unfoldable pub rowQuestions : OrderRecord → ℕ → ℕ → ℕ → List Question
-rowQuestions o plain undetected size = generatorCount (o .n) ∷ threshold (o .d) ∷ room (o .d) plain ∷ room (o .d) undetected ∷ room textSize size ∷ []
-
-unfoldable pub rowCall : OrderRecord → (events paths polynomial : ℕ) → (plain undetected : List ℕ) → List ℕ → Answer × List ℕ
+unfoldable pub rowCall : Order → (events paths polynomial : ℕ) → (plain undetected : List ℕ) → List ℕ → Answer ℕ × List ℕ
 rowCall o events paths polynomial plain undetected buffer =
-    writtenOr (firstNo (rowQuestions o (length plain) (length undetected) (length buffer))) (rowText (orderIn o) events paths polynomial plain undetected) buffer
+    unlessRefused (firstNo (rowQuestions (length (o .generators)) (o .d) (length plain) (length undetected) (length buffer))) buffer
+    (laidOut (rowText o events paths polynomial plain undetected) buffer)
 
-unfoldable pub refusalCall : (number left : ℕ) → List ℕ → Answer × List ℕ
-refusalCall number left buffer = writtenOr (firstNo (room textSize (length buffer) ∷ [])) (refusalText number left) buffer
+unfoldable pub refusalCall : (number left : ℕ) → List ℕ → Answer ℕ × List ℕ
+refusalCall number left buffer = unlessRefused (firstNo (room textSize (length buffer) ∷ [])) buffer (laidOut (refusalText number left) buffer)

@@ -1,3 +1,3 @@
 pub mod Text
 pub mod Calls
-pub mod Steps
+pub mod Model

@@ -1,15 +1,17 @@
 // What is printed: the row of an order, or a refusal, as bytes in a lent buffer.
 ghost use mathlib.Core.Path.{_≡_};
 ghost use Prim.Native.Nat.{_≤_};
-ghost use lib.ListN.{length, replicate};
+ghost use lib.ListN.{length};
 ghost use Rattle.order.specs.Questions.{firstNo};
 ghost use Rattle.text.specs.Text.{rowText, refusalText};
-ghost use Rattle.text.specs.Calls.{writtenAs, orderIn, rowQuestions, rowCall, refusalCall};
-ghost use Rattle.text.specs.Steps.{Put};
+ghost use Rattle.text.specs.Calls.{writtenAs, rowQuestions, rowCall, refusalCall};
+ghost use Rattle.order.specs.Answers.{orderIn};
+ghost use Rattle.text.specs.Model.Steps.{Put, RowAccepted};
 use lines::put_counts;
 use lines::put_line;
 use lines::put_order;
 use lines::put_polynomial;
+use lists::clear_bytes;
 use order::questions::from_to;
 use order::record::OrderRecord;
 
@@ -22,19 +24,9 @@ pub enum Written {
     Refused(u64),
 }
 
-fn clear(buffer: &mut [u8])
-    ensures { λ _. ⌜ now (buffer .exit) ≡ replicate (length (now (buffer .entry))) 0 ⌝ }
-{
-    let mut i = 0;
-    while i < buffer.len() {
-        buffer[i] = 0;
-        i += 1;
-    }
-}
-
 // Questions 3, 7 and 10: the number of the first that says no, or 0.
 fn ask_row(o: OrderRecord, plain: usize, undetected: usize, size: usize) -> u64
-    ensures { λ r. ⌜ r ≡ firstNo (rowQuestions o plain undetected size) ⌝ }
+    ensures { λ r. ⌜ r ≡ firstNo (rowQuestions (o .n) (o .d) plain undetected size) ⌝ }
 {
     if !from_to(2, 4, o.n) {
         return 3;
@@ -64,7 +56,7 @@ fn put_row(
     plain: &[u64],
     undetected: &[u64],
 ) -> usize
-    requires { ⌜ (o .n ≤ 4) × (o .d ≤ 64) × (o .d ≤ length (now plain)) × (o .d ≤ length (now undetected)) × (4096 ≤ length (now buffer)) ⌝ }
+    requires { ⌜ RowAccepted (o .n) (o .d) (length (now plain)) (length (now undetected)) (length (now buffer)) ⌝ }
     ensures { λ r. ⌜ Put 4096 (now (buffer .entry)) 0 (rowText (orderIn o) events paths polynomial (now (plain .entry)) (now (undetected .entry))) (now (buffer .exit)) r ⌝ }
 {
     let to_events = put_order(buffer, 0, o);
@@ -94,13 +86,13 @@ pub fn write_row(
     undetected: &[u64],
     buffer: &mut [u8],
 ) -> Written
-    ensures { λ r. ⌜ (writtenAs r, now (buffer .exit)) ≡ rowCall o events paths polynomial (now (plain .entry)) (now (undetected .entry)) (now (buffer .entry)) ⌝ }
+    ensures { λ r. ⌜ (writtenAs r, now (buffer .exit)) ≡ rowCall (orderIn o) events paths polynomial (now (plain .entry)) (now (undetected .entry)) (now (buffer .entry)) ⌝ }
 {
     let refusal = ask_row(o, plain.len(), undetected.len(), buffer.len());
     if refusal != 0 {
         return Written::Refused(refusal);
     }
-    clear(buffer);
+    clear_bytes(buffer);
     let end = put_row(buffer, o, events, paths, polynomial, plain, undetected);
     Written::Bytes(end as u64)
 }
@@ -112,7 +104,7 @@ pub fn write_refusal(number: u64, left: u64, buffer: &mut [u8]) -> Written
     if buffer.len() < 4096 {
         return Written::Refused(10);
     }
-    clear(buffer);
+    clear_bytes(buffer);
     let end = put_refusal(buffer, number, left);
     Written::Bytes(end as u64)
 }

@@ -1,11 +1,11 @@
 // The lines of a text.
 ghost use mathlib.Core.List.{[], _∷_, map, flatMap};
-ghost use Prim.Native.Nat.{_+_, _*_, _<_, _≤_};
+ghost use Prim.Native.Nat.{_+_, _*_, _≤_};
 ghost use lib.ListN.{length};
 ghost use Rattle.lists.specs.Lists.{upFrom};
 ghost use Rattle.text.specs.Text.{decimal, hexadecimal, line, wCRC, orderLine, countLine};
-ghost use Rattle.text.specs.Calls.{orderIn};
-ghost use Rattle.text.specs.Steps.{Put};
+ghost use Rattle.order.specs.Answers.{orderIn};
+ghost use Rattle.text.specs.Model.Steps.{Put, ToPutCounts};
 use super::numbers::put_digits;
 use super::numbers::put_numbers;
 use order::record::OrderRecord;
@@ -50,7 +50,7 @@ pub fn put_order(buffer: &mut [u8], at: usize, o: OrderRecord) -> usize
 
 // The counts of one weight, which has two digits at most.
 fn put_count(buffer: &mut [u8], at: usize, w: usize, plain: &[u64], undetected: &[u64]) -> usize
-    requires { ⌜ (w < 64) × (w < length (now plain)) × (w < length (now undetected)) × (at + 71 ≤ length (now buffer)) ⌝ }
+    requires { ⌜ ToPutCounts (w + 1) (length (now plain)) (length (now undetected)) at 71 (length (now buffer)) ⌝ }
     ensures { λ r. ⌜ Put 51 (now (buffer .entry)) at (countLine (now (plain .entry)) (now (undetected .entry)) w) (now (buffer .exit)) r ⌝ }
 {
     put_line(buffer, at, b"A", &[w as u64, plain[w], undetected[w]])
@@ -64,7 +64,7 @@ pub fn put_counts(
     plain: &[u64],
     undetected: &[u64],
 ) -> usize
-    requires { ⌜ (d ≤ 64) × (d ≤ length (now plain)) × (d ≤ length (now undetected)) × (at + (51 * d + 20) ≤ length (now buffer)) ⌝ }
+    requires { ⌜ ToPutCounts d (length (now plain)) (length (now undetected)) at (51 * d + 20) (length (now buffer)) ⌝ }
     ensures { λ r. ⌜ Put (51 * d) (now (buffer .entry)) at (flatMap (countLine (now (plain .entry)) (now (undetected .entry))) (upFrom 0 d)) (now (buffer .exit)) r ⌝ }
 {
     let mut end = at;

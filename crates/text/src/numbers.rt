@@ -1,9 +1,9 @@
 // Numbers as digits. A function that puts something into the buffer takes the place of its first byte and answers the place after its last.
 ghost use mathlib.Core.Path.{_≡_};
-ghost use Prim.Native.Nat.{_+_, _*_, _<_, _≤_};
+ghost use Prim.Native.Nat.{_*_, _<_};
 ghost use lib.ListN.{length};
 ghost use Rattle.text.specs.Text.{digit, numeral};
-ghost use Rattle.text.specs.Steps.{Put, spaced};
+ghost use Rattle.text.specs.Model.Steps.{Put, ToPut, spaced};
 
 // 0 to 9, then A to F.
 fn digit_of(x: u64) -> u8
@@ -18,7 +18,7 @@ fn digit_of(x: u64) -> u8
 
 // The digits before the last, then the last.
 pub fn put_digits(buffer: &mut [u8], at: usize, base: u64, x: u64) -> usize
-    requires { ⌜ (2 ≤ base) × (base ≤ 16) × (at + length (numeral base x) ≤ length (now buffer)) ⌝ }
+    requires { ⌜ ToPut 2 base at (length (numeral base x)) (length (now buffer)) ⌝ }
     ensures { λ r. ⌜ Put (length (numeral base x)) (now (buffer .entry)) at (numeral base x) (now (buffer .exit)) r ⌝ }
 {
     if x < base {
@@ -32,7 +32,7 @@ pub fn put_digits(buffer: &mut [u8], at: usize, base: u64, x: u64) -> usize
 
 // A space before each number. In base 8 or above a number of 64 bits has 22 digits at most.
 pub fn put_numbers(buffer: &mut [u8], at: usize, base: u64, numbers: &[u64]) -> usize
-    requires { ⌜ (8 ≤ base) × (base ≤ 16) × (at + 23 * length (now numbers) ≤ length (now buffer)) ⌝ }
+    requires { ⌜ ToPut 8 base at (23 * length (now numbers)) (length (now buffer)) ⌝ }
     ensures { λ r. ⌜ Put (23 * length (now (numbers .entry))) (now (buffer .entry)) at (spaced base (now (numbers .entry))) (now (buffer .exit)) r ⌝ }
 {
     let mut end = at;

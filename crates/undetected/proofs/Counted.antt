@@ -14,11 +14,12 @@ use Rattle.lists.specs.Lists.{upFrom, count}
 use Rattle.lists.proofs.Filters.{between-le}
 use Rattle.lists.proofs.Lengths.{length-map-upFrom, upFrom-last}
 use Rattle.poly.specs.Poly.{remainder}
-use Rattle.parity.specs.Parity.{checkTable}
+use Rattle.parity.specs.Model.Parity.{checkTable, Divisor}
 use Rattle.parity.proofs.Divided.{all-even-divided}
 use Rattle.paths.specs.Part.{pathsBefore}
 use Rattle.paths.proofs.Parts.{before-more, before-mono}
-use Rattle.undetected.specs.Steps.{wordAt, dividedBetween, dividedOf, evenBetween, upTo, countedFrom, Readable, Divisor}
+use Rattle.poly.specs.Model.Table.{wordAt}
+use Rattle.undetected.specs.Model.Steps.{dividedBetween, dividedOf, evenBetween, upTo, countedFrom, Readable}
 use Rattle.undetected.proofs.Counting.{upTo-within}
 
 -- ---- where the words of a weight stand
@@ -39,7 +40,8 @@ module _ (bits d m p : ℕ) (table plain : List ℕ) (readable : Readable bits d
   even-divided a b =
       ap (λ (f : ℕ → Bool). count f (upFrom a (b - a)))
       (fun-ext
-      (λ k. all-even-divided bits m p (getD table (2 * k) 0) (getD table (2 * k + 1) 0) (divisor .2) (readable .numbers (2 * k)) (readable .words k)))
+      (λ k. all-even-divided bits m p (getD table (2 * k) 0) (getD table (2 * k + 1) 0) (divisor .modulus .degree)
+      (readable .numbers (2 * k)) (readable .words k)))
 
   -- the limit is how many there are, so it is never passed
   pub counted-weight : (rows : List ℕ) (w at r : ℕ) → rows ≡ checkTable bits m p → at ≡ pathsBefore plain w

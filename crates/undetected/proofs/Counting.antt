@@ -7,10 +7,9 @@ use mathlib.Core.Bool.{Bool, true, false, cond}
 use mathlib.Core.List.{List}
 use borrow.Author.Tests.{le-leb, lt-leb}
 use lib.ListN.{getD}
-use Rattle.lists.specs.Lists.{count}
 use Rattle.lists.proofs.Filters.{between, between-none, between-next, between-mono, between-le}
-use Rattle.parity.specs.Parity.{allEven}
-use Rattle.undetected.specs.Steps.{evenBetween, upTo}
+use Rattle.parity.specs.Model.Parity.{allEven}
+use Rattle.undetected.specs.Model.Steps.{evenBetween, upTo}
 
 -- ---- up to a limit
 

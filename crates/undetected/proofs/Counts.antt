@@ -28,7 +28,8 @@ use Rattle.paths.specs.Paths.{words, wordsOfWeight, weights, paths, plainCounts
 use Rattle.paths.specs.Part.{pathsBefore}
 use Rattle.paths.proofs.Listed.{of-paths, length-plainCounts, plain-count-at}
 use Rattle.undetected.specs.Undetected.{passes, undetectedCount, undetectedCounts}
-use Rattle.undetected.specs.Steps.{wordAt, dividedBetween, dividedOf, dividedCounts, countedFrom, Readable}
+use Rattle.poly.specs.Model.Table.{wordAt}
+use Rattle.undetected.specs.Model.Steps.{dividedBetween, dividedOf, dividedCounts, countedFrom, Readable}
 
 -- ---- lists
 

@@ -1,7 +1,8 @@
--- What `undetectedCount` counts: the nonzero words of weight w that p divides, each once. They are among the words that the plain count counts.
+-- What `undetectedCount` counts: the nonzero words of weight w that p divides, each once (`undetected-means-divided`). They are among the words that
+-- the plain count counts.
 -- Assumes nothing.
-use Prim.Native.Nat.{ℕ, _≤_, _<_, _^_}
-use mathlib.Core.Path.{_≡_, refl, subst}
+use Prim.Native.Nat.{ℕ, _≤_, _<_}
+use mathlib.Core.Path.{_≡_, refl, sym, subst}
 use mathlib.Core.Logic.{_↔_}
 use mathlib.Core.List.{List, List·Memᴰ}
 use lib.Dec.{T, eqb, eqb→eq, eqb-refl}
@@ -11,19 +12,13 @@ use Rattle.lists.proofs.Tests.{T-and}
 use Rattle.lists.proofs.Member.{of-filter, in-filter}
 use Rattle.lists.proofs.Lengths.{length-filter-mono}
 use Rattle.lists.proofs.Sorted.{Sorted, filter-sorted}
-use Rattle.poly.specs.Poly.{remainder}
+use Rattle.poly.specs.Poly.{remainder, HasDegree}
+use Rattle.poly.proofs.Remainder.{divides⇔remainder-zero}
 use Rattle.code.specs.Weight.{weight}
 use Rattle.order.specs.Order.{Order}
 use Rattle.paths.specs.Paths.{words, wordsOfWeight}
 use Rattle.paths.proofs.Listed.{mem-words, words-sorted}
-use Rattle.undetected.specs.Undetected.{passes, undetectedCount}
-
--- u is a nonzero word of N bits of weight w that p divides
-pub record IsUndetected (o : Order) (p w u : ℕ) : Type 0 where
-  pub nonzero : 1 ≤ u
-  pub fits : u < 2 ^ o .N
-  pub weighs : weight (o .N) (o .generators) u ≡ w
-  pub divided : remainder (o .m) p u ≡ 0
+use Rattle.undetected.specs.Undetected.{passes, undetectedCount, IsUndetected, CountsUndetected}
 
 abbrev pub undetectedWords : Order → ℕ → ℕ → List ℕ
 undetectedWords o p w = filter (passes o p w) (words (o .N))
@@ -42,20 +37,6 @@ module _ (o : Order) (p w : ℕ) where
       let y : ℕ = remainder (o .m) p u in
       T-and (eqb x w) (eqb y 0) .1 (subst (λ z. T (eqb x z)) e (eqb-refl x), subst (λ z. T (eqb y z)) r (eqb-refl y))
 
-  of-undetectedWords : (u : ℕ) → List·Memᴰ u (undetectedWords o p w) → IsUndetected o p w u
-  of-undetectedWords u m =
-      let h = of-filter (passes o p w) (words (o .N)) m in
-      let word = mem-words (o .N) u .0 (h .0) in
-      let t = of-passes u (h .1) in
-      record { nonzero = word .0; fits = word .1; weighs = t .0; divided = t .1 }
-
-  in-undetectedWords : (u : ℕ) → IsUndetected o p w u → List·Memᴰ u (undetectedWords o p w)
-  in-undetectedWords u h =
-      in-filter (passes o p w) (words (o .N)) (mem-words (o .N) u .1 (h .nonzero, h .fits)) (in-passes u (h .weighs) (h .divided))
-
-  pub mem-undetectedWords : (u : ℕ) → List·Memᴰ u (undetectedWords o p w) ↔ IsUndetected o p w u
-  mem-undetectedWords u = (of-undetectedWords u, in-undetectedWords u)
-
   pub undetectedWords-sorted : Sorted _<_ (undetectedWords o p w)
   undetectedWords-sorted = filter-sorted _<_ (passes o p w) (words (o .N)) (words-sorted (o .N))
 
@@ -68,3 +49,26 @@ module _ (o : Order) (p w : ℕ) where
   undetected-le-plain =
       length-filter-mono (passes o p w) (λ u. eqb (weight (o .N) (o .generators) u) w)
       (λ u t. T-and (eqb (weight (o .N) (o .generators) u) w) (eqb (remainder (o .m) p u) 0) .0 t .0) (words (o .N))
+
+  -- ---- of a polynomial of the order's degree
+
+  module _ (degree : HasDegree (o .m) p) where
+    of-undetectedWords : (u : ℕ) → List·Memᴰ u (undetectedWords o p w) → IsUndetected o p w u
+    of-undetectedWords u m =
+        let h = of-filter (passes o p w) (words (o .N)) m in
+        let word = mem-words (o .N) u .0 (h .0) in
+        let t = of-passes u (h .1) in
+        record { nonzero = word .0; fits = word .1; weighs = t .0; divided = divides⇔remainder-zero (o .m) p u degree .1 (t .1) }
+
+    in-undetectedWords : (u : ℕ) → IsUndetected o p w u → List·Memᴰ u (undetectedWords o p w)
+    in-undetectedWords u h =
+        in-filter (passes o p w) (words (o .N)) (mem-words (o .N) u .1 (h .nonzero, h .fits))
+        (in-passes u (h .weighs) (divides⇔remainder-zero (o .m) p u degree .0 (h .divided)))
+
+    pub mem-undetectedWords : (u : ℕ) → List·Memᴰ u (undetectedWords o p w) ↔ IsUndetected o p w u
+    mem-undetectedWords u = (of-undetectedWords u, in-undetectedWords u)
+
+    -- the count is the number of the words that weigh w and that p divides
+    pub undetected-means-divided : CountsUndetected o p w (undetectedCount o p w)
+    undetected-means-divided =
+        record { listed = undetectedWords o p w; each-once = undetectedWords-sorted; just-these = mem-undetectedWords; how-many = sym undetected-count-is-length }

@@ -1,2 +1,2 @@
 pub mod Undetected
-pub mod Steps
+pub mod Model

@@ -1,13 +1,18 @@
 -- What a check polynomial leaves undetected: how many nonzero words of each weight it divides. From division and cyclic products over the
 -- words 1 to 2^N - 1; no event, state, walk or table enters here.
--- The test "p divides u" is that the remainder is 0; `poly` proves that this is being an ordinary product (`divides⇔remainder-zero`).
+-- Counting tests that the remainder is 0. `IsUndetected` says the same with ordinary products, and `undetected-means-divided` (proofs/Undetected.antt)
+-- that each count is the number of the words that it describes: no reader has to know about remainders.
 -- Assumes nothing.
-use Prim.Native.Nat.{ℕ}
+use Prim.Native.Nat.{ℕ, _^_, _≤_, _<_}
+use mathlib.Core.Path.{_≡_}
 use mathlib.Core.Bool.{Bool, _&&_}
-use mathlib.Core.List.{List, map}
+use mathlib.Core.Logic.{_↔_}
+use mathlib.Core.List.{List, map, List·Memᴰ}
 use lib.Dec.{eqb}
+use lib.ListN.{length}
 use Rattle.lists.specs.Lists.{count}
-use Rattle.poly.specs.Poly.{remainder}
+use Rattle.lists.specs.Sorted.{Sorted}
+use Rattle.poly.specs.Poly.{remainder, Divides}
 use Rattle.code.specs.Weight.{weight}
 use Rattle.order.specs.Order.{Order}
 use Rattle.paths.specs.Paths.{words, weights}
@@ -23,3 +28,19 @@ undetectedCount o p w = count (passes o p w) (words (o .N))
 -- the same for each weight below d
 unfoldable pub undetectedCounts : Order → ℕ → List ℕ
 undetectedCounts o p = map (undetectedCount o p) (weights o)
+
+-- ---- what a count means
+
+-- u is a nonzero word of N bits that weighs w and that p divides
+pub record IsUndetected (o : Order) (p w u : ℕ) : Type 0 where
+  pub nonzero : 1 ≤ u
+  pub fits : u < 2 ^ o .N
+  pub weighs : weight (o .N) (o .generators) u ≡ w
+  pub divided : Divides p u
+
+-- k is how many of these words there are: a list of k words, none twice, has just these as members
+pub record CountsUndetected (o : Order) (p w k : ℕ) : Type 0 where
+  pub listed : List ℕ
+  pub each-once : Sorted _<_ listed
+  pub just-these : (u : ℕ) → List·Memᴰ u listed ↔ IsUndetected o p w u
+  pub how-many : length listed ≡ k

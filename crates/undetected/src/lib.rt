@@ -1,10 +1,7 @@
 // How many listed words of each weight a polynomial divides.
 // What is `pub` here is for the crates above; docs/DECISIONS.md lists it as internal.
 ghost use mathlib.Core.Path.{_≡_};
-ghost use Prim.Native.Nat.{_+_, _*_, _≤_};
-ghost use lib.ListN.{length};
-ghost use Rattle.paths.specs.Part.{pathsBefore};
-ghost use Rattle.undetected.specs.Steps.{evenBetween, upTo, countedFrom, Readable, Divisor};
+ghost use Rattle.undetected.specs.Model.Steps.{evenBetween, upTo, countedFrom, ToCountBetween, ToCountFrom};
 use parity::all_even;
 use parity::check_table;
 
@@ -17,7 +14,7 @@ pub fn count_up_to(
     m: u64,
     limit: u64,
 ) -> u64
-    requires { ⌜ (from ≤ to) × (2 * to ≤ length (now table)) × (m ≤ 12) ⌝ }
+    requires { ⌜ ToCountBetween (now table) from to m ⌝ }
     ensures { λ r. ⌜ r ≡ upTo limit (evenBetween (now (rows .entry)) m (now (table .entry)) from to) ⌝ }
 {
     let mut found = 0;
@@ -47,7 +44,7 @@ pub fn count_from(
     d: usize,
     start: usize,
 )
-    requires { ⌜ Readable bits d (now table) (now plain) × Divisor m p × (first ≤ d) × (d ≤ length (now undetected)) × (start ≡ pathsBefore (now plain) first) ⌝ }
+    requires { ⌜ ToCountFrom bits d m p first start (now table) (now plain) (now undetected) ⌝ }
     ensures { λ _. ⌜ now (undetected .exit) ≡ countedFrom m p (now (table .entry)) (now (plain .entry)) first d (now (undetected .entry)) ⌝ }
 {
     let rows = check_table(bits, m, p);

@@ -6,7 +6,7 @@
 //! of slices; what is written is borrowed alone, so that it overlaps nothing
 //! else and no one else has it meanwhile.
 
-use crate::{halves, Code, Found, Lent};
+use crate::{halves, Found, Lent};
 
 /// `struct dohvrin_answer`.
 #[repr(C)]
@@ -18,20 +18,25 @@ pub struct Answer {
     pub high: u64,
 }
 
-/// `struct dohvrin_order`.
+/// `struct dohvrin_order`: an order as the calls take it, right or wrong.
 #[repr(C)]
 #[derive(Clone, Copy, Debug, Default, PartialEq, Eq)]
-pub struct OrderAnswer {
-    pub refusal: u64,
+pub struct AnyOrder {
     pub n: u64,
     pub v: u64,
     pub bits: u64,
     pub m: u64,
     pub d: u64,
-    pub g1: u64,
-    pub g2: u64,
-    pub g3: u64,
-    pub g4: u64,
+    /// `g1` to `g4`; those past the n-th are not looked at.
+    pub generators: [u64; 4],
+}
+
+/// `struct dohvrin_order_answer`.
+#[repr(C)]
+#[derive(Clone, Copy, Debug, Default, PartialEq, Eq)]
+pub struct OrderAnswer {
+    pub refusal: u64,
+    pub order: AnyOrder,
 }
 
 /// `struct dohvrin_event`.
@@ -75,6 +80,7 @@ pub struct Part {
 }
 
 const _: () = assert!(std::mem::size_of::<Answer>() == 32);
+const _: () = assert!(std::mem::size_of::<AnyOrder>() == 72);
 const _: () = assert!(std::mem::size_of::<OrderAnswer>() == 80);
 const _: () = assert!(std::mem::size_of::<Event>() == 40);
 const _: () = assert!(std::mem::size_of::<Listing>() == 24);
@@ -96,69 +102,44 @@ pub fn test(bits: u64, m: u64, polynomial: u64, word: u128) -> Answer {
     unsafe { dohvrin_test(bits, m, polynomial, low, high) }
 }
 
-pub fn weigh(code: Code, word: u128) -> Answer {
-    let (gs, (low, high)) = (code.generators, halves(word));
-    unsafe { dohvrin_weigh(gs.as_ptr(), gs.len(), code.v, code.bits, low, high) }
+pub fn weigh(order: AnyOrder, word: u128) -> Answer {
+    let (low, high) = halves(word);
+    unsafe { dohvrin_weigh(order, low, high) }
 }
 
-pub fn encode(code: Code, word: u128, output: &mut [u8]) -> u64 {
-    let (gs, (low, high)) = (code.generators, halves(word));
-    let (out, size) = (output.as_mut_ptr(), output.len());
-    unsafe {
-        dohvrin_encode(
-            gs.as_ptr(),
-            gs.len(),
-            code.v,
-            code.bits,
-            low,
-            high,
-            out,
-            size,
-        )
-    }
+pub fn encode(order: AnyOrder, word: u128, output: &mut [u8]) -> u64 {
+    let (low, high) = halves(word);
+    unsafe { dohvrin_encode(order, low, high, output.as_mut_ptr(), output.len()) }
 }
 
-pub fn collect(code: Code, d: u64, table: &mut [Event], work: &mut [u64]) -> Answer {
-    let (gs, v, bits) = (code.generators, code.v, code.bits);
-    let (events, entries) = (table.as_mut_ptr(), table.len());
-    let (area, size) = (work.as_mut_ptr(), work.len());
+pub fn collect(order: AnyOrder, events: &mut [Event], work: &mut [u64]) -> Answer {
     unsafe {
         dohvrin_collect(
-            gs.as_ptr(),
-            gs.len(),
-            v,
-            bits,
-            d,
-            events,
-            entries,
-            area,
-            size,
+            order,
+            events.as_mut_ptr(),
+            events.len(),
+            work.as_mut_ptr(),
+            work.len(),
         )
     }
 }
 
 pub fn list(
-    code: Code,
-    d: u64,
+    order: AnyOrder,
     events: &mut [Event],
     paths: &mut [u64],
-    counts: &mut [u64],
+    plain: &mut [u64],
     work: &mut [u64],
 ) -> Listing {
-    let (gs, v, bits) = (code.generators, code.v, code.bits);
     unsafe {
         dohvrin_list(
-            gs.as_ptr(),
-            gs.len(),
-            v,
-            bits,
-            d,
+            order,
             events.as_mut_ptr(),
             events.len(),
             paths.as_mut_ptr(),
             paths.len(),
-            counts.as_mut_ptr(),
-            counts.len(),
+            plain.as_mut_ptr(),
+            plain.len(),
             work.as_mut_ptr(),
             work.len(),
         )
@@ -170,16 +151,10 @@ pub fn part(paths: &[u64], counts: &[u64], weight: u64) -> Part {
     unsafe { dohvrin_part(table, numbers, counts.as_ptr(), counts.len(), weight) }
 }
 
-pub fn search(code: Code, m: u64, d: u64, lent: Lent) -> Row {
-    let (gs, v, bits) = (code.generators, code.v, code.bits);
+pub fn search(order: AnyOrder, lent: Lent) -> Row {
     unsafe {
         dohvrin_search(
-            gs.as_ptr(),
-            gs.len(),
-            v,
-            bits,
-            m,
-            d,
+            order,
             lent.events.as_mut_ptr(),
             lent.events.len(),
             lent.paths.as_mut_ptr(),
@@ -194,16 +169,10 @@ pub fn search(code: Code, m: u64, d: u64, lent: Lent) -> Row {
     }
 }
 
-pub fn count(code: Code, m: u64, d: u64, polynomial: u64, lent: Lent) -> Listing {
-    let (gs, v, bits) = (code.generators, code.v, code.bits);
+pub fn count(order: AnyOrder, polynomial: u64, lent: Lent) -> Listing {
     unsafe {
         dohvrin_count(
-            gs.as_ptr(),
-            gs.len(),
-            v,
-            bits,
-            m,
-            d,
+            order,
             polynomial,
             lent.events.as_mut_ptr(),
             lent.events.len(),
@@ -220,23 +189,15 @@ pub fn count(code: Code, m: u64, d: u64, polynomial: u64, lent: Lent) -> Listing
 }
 
 pub fn row_text(
-    code: Code,
-    m: u64,
-    d: u64,
+    order: AnyOrder,
     found: Found,
     plain: &[u64],
     undetected: &[u64],
     text: &mut [u8],
 ) -> Answer {
-    let (gs, v, bits) = (code.generators, code.v, code.bits);
     unsafe {
         dohvrin_row_text(
-            gs.as_ptr(),
-            gs.len(),
-            v,
-            bits,
-            m,
-            d,
+            order,
             found.events as u64,
             found.paths as u64,
             found.polynomial,
@@ -262,47 +223,23 @@ extern "C" {
     fn dohvrin_append(bits: u64, m: u64, polynomial: u64, low: u64, high: u64) -> Answer;
     fn dohvrin_strip(bits: u64, m: u64, polynomial: u64, low: u64, high: u64) -> Answer;
     fn dohvrin_test(bits: u64, m: u64, polynomial: u64, low: u64, high: u64) -> Answer;
-    fn dohvrin_weigh(
-        generators: *const u64,
-        count: usize,
-        v: u64,
-        bits: u64,
-        low: u64,
-        high: u64,
-    ) -> Answer;
-    fn dohvrin_encode(
-        generators: *const u64,
-        count: usize,
-        v: u64,
-        bits: u64,
-        low: u64,
-        high: u64,
-        output: *mut u8,
-        size: usize,
-    ) -> u64;
+    fn dohvrin_weigh(order: AnyOrder, low: u64, high: u64) -> Answer;
+    fn dohvrin_encode(order: AnyOrder, low: u64, high: u64, output: *mut u8, size: usize) -> u64;
     fn dohvrin_collect(
-        generators: *const u64,
-        count: usize,
-        v: u64,
-        bits: u64,
-        d: u64,
-        table: *mut Event,
-        entries: usize,
+        order: AnyOrder,
+        events: *mut Event,
+        event_entries: usize,
         work: *mut u64,
-        size: usize,
+        work_numbers: usize,
     ) -> Answer;
     fn dohvrin_list(
-        generators: *const u64,
-        count: usize,
-        v: u64,
-        bits: u64,
-        d: u64,
+        order: AnyOrder,
         events: *mut Event,
         event_entries: usize,
         paths: *mut u64,
         path_numbers: usize,
-        counts: *mut u64,
-        count_entries: usize,
+        plain: *mut u64,
+        plain_entries: usize,
         work: *mut u64,
         work_numbers: usize,
     ) -> Listing;
@@ -314,12 +251,7 @@ extern "C" {
         weight: u64,
     ) -> Part;
     fn dohvrin_search(
-        generators: *const u64,
-        count: usize,
-        v: u64,
-        bits: u64,
-        m: u64,
-        d: u64,
+        order: AnyOrder,
         events: *mut Event,
         event_entries: usize,
         paths: *mut u64,
@@ -332,12 +264,7 @@ extern "C" {
         work_numbers: usize,
     ) -> Row;
     fn dohvrin_count(
-        generators: *const u64,
-        count: usize,
-        v: u64,
-        bits: u64,
-        m: u64,
-        d: u64,
+        order: AnyOrder,
         polynomial: u64,
         events: *mut Event,
         event_entries: usize,
@@ -351,12 +278,7 @@ extern "C" {
         work_numbers: usize,
     ) -> Listing;
     fn dohvrin_row_text(
-        generators: *const u64,
-        count: usize,
-        v: u64,
-        bits: u64,
-        m: u64,
-        d: u64,
+        order: AnyOrder,
         events: u64,
         paths: u64,
         polynomial: u64,

@@ -13,16 +13,18 @@
 //! println!("{}", tables.search(&order).unwrap().text());
 //! ```
 //!
-//! The functions below them take numbers and slices, as the calls do.
+//! The functions below them take numbers and slices, as the calls do, and an
+//! `AnyOrder` by value, which may be wrong; a call that does not ask about m or d
+//! takes any.
 //!
 //! Notation: a polynomial over GF(2) is a number whose bit j is the
 //! coefficient of x^j. `bits` is N, the bits of a word; v is the memory.
 //!
 //! ```
-//! use dohvrin::{append, strip, test, weigh, Code, Refusal, Stripped};
+//! use dohvrin::{append, strip, test, weigh, AnyOrder, Refusal, Stripped};
 //!
-//! let code = Code { generators: &[0o13, 0o17], v: 3, bits: 70 };
-//! assert_eq!(weigh(code, 1), Ok(7));
+//! let order = AnyOrder::new(&[0o13, 0o17], 3, 70, 6, 18);
+//! assert_eq!(weigh(order, 1), Ok(7));
 //! let word = append(70, 6, 0x43, 5).unwrap();
 //! assert_eq!(strip(70, 6, 0x43, word), Ok(Stripped::Message(5)));
 //! assert_eq!(test(70, 6, 0x40, word), Err(Refusal::Polynomial));
@@ -31,27 +33,27 @@
 //! Error events go into a table that the caller lends, with a work area:
 //!
 //! ```
-//! use dohvrin::{collect, Code, Event, Refusal, WORK};
+//! use dohvrin::{collect, AnyOrder, Event, Refusal, WORK};
 //!
-//! let code = Code { generators: &[1, 3], v: 1, bits: 3 };
+//! let order = AnyOrder::new(&[1, 3], 1, 3, 2, 5);
 //! let (mut table, mut work) = ([Event::default(); 6], vec![0; WORK]);
-//! assert_eq!(collect(code, 5, &mut table, &mut work), Ok(4));
+//! assert_eq!(collect(order, &mut table, &mut work), Ok(4));
 //! let listed = table.map(|e| (e.state, e.length, e.weight, e.input()));
 //! assert_eq!(listed[..4], [(0, 1, 0, 0), (0, 2, 3, 1), (0, 3, 4, 3), (1, 1, 1, 1)]);
 //! assert_eq!(listed[4..], [(0, 0, 0, 0); 2]);
-//! assert_eq!(collect(code, 5, &mut table[..3], &mut work), Err(Refusal::Events));
+//! assert_eq!(collect(order, &mut table[..3], &mut work), Err(Refusal::Events));
 //! ```
 //!
 //! Paths go into one more table, two numbers a word, and are counted by weight;
 //! `part` finds the words of one weight again:
 //!
 //! ```
-//! use dohvrin::{list, part, words, Code, Event, Listed, Refusal, WORK};
+//! use dohvrin::{list, part, words, AnyOrder, Event, Listed, Refusal, WORK};
 //!
-//! let code = Code { generators: &[1, 3], v: 1, bits: 4 };
+//! let order = AnyOrder::new(&[1, 3], 1, 4, 2, 7);
 //! let (mut events, mut work) = ([Event::default(); 5], vec![0; WORK]);
 //! let (mut paths, mut counts) = ([0; 30], [0; 7]);
-//! let listed = list(code, 7, &mut events, &mut paths, &mut counts, &mut work);
+//! let listed = list(order, &mut events, &mut paths, &mut counts, &mut work);
 //! assert_eq!(listed, Ok(Listed { events: 5, paths: 15 }));
 //! assert_eq!(counts, [0, 0, 0, 4, 5, 4, 2]);
 //! let heaviest: Vec<u128> = words(part(&paths, &counts, 6).unwrap()).collect();
@@ -63,9 +65,9 @@
 //! words that pass the check unseen, and `row_text` writes what it found:
 //!
 //! ```
-//! use dohvrin::{row_text, search, Code, Event, Found, Lent, Searched, TEXT, WORK};
+//! use dohvrin::{row_text, search, AnyOrder, Event, Found, Lent, Searched, TEXT, WORK};
 //!
-//! let code = Code { generators: &[1, 3], v: 1, bits: 4 };
+//! let order = AnyOrder::new(&[1, 3], 1, 4, 2, 6);
 //! let (mut events, mut paths, mut work) = ([Event::default(); 5], [0; 30], vec![0; WORK]);
 //! let (mut plain, mut undetected, mut text) = ([0; 7], [0; 7], [0; TEXT]);
 //! let lent = Lent {
@@ -76,9 +78,9 @@
 //!     work: &mut work,
 //! };
 //! let found = Found { events: 5, paths: 13, polynomial: 0x5 };
-//! assert_eq!(search(code, 2, 6, lent), Ok(Searched::Found(found)));
+//! assert_eq!(search(order, lent), Ok(Searched::Found(found)));
 //! assert_eq!(undetected, [0, 0, 0, 0, 1, 0, 0]);
-//! let size = row_text(code, 2, 6, found, &plain, &undetected, &mut text).unwrap();
+//! let size = row_text(order, found, &plain, &undetected, &mut text).unwrap();
 //! assert!(text[..size].starts_with(b"ORDER 2 1 4 2 6 1 3\nEVENTS 5\nPATHS 13\nA 0 0 0\n"));
 //! assert!(text[..size].ends_with(b"A 5 4 0\nCRC 0x5\n"));
 //! ```
@@ -94,7 +96,7 @@ mod search;
 mod tables;
 mod word;
 
-pub use calls::Event;
+pub use calls::{AnyOrder, Event};
 pub use entries::{Entries, NoRoom};
 pub use listing::{collect, list, part, words, Listed, WORK};
 pub use order::Order;
@@ -102,4 +104,4 @@ pub use refusal::Refusal;
 pub use row::Row;
 pub use search::{count, refusal_text, row_text, search, Found, Lent, Searched, TEXT};
 pub use tables::Tables;
-pub use word::{append, encode, halves, joined, strip, test, weigh, Code, Stripped};
+pub use word::{append, encode, halves, joined, strip, test, weigh, Stripped};

@@ -1,7 +1,7 @@
 //! Error events and paths, in tables that the caller lends.
 
 use crate::refusal::accepted;
-use crate::{calls, joined, Code, Event, Refusal};
+use crate::{calls, joined, AnyOrder, Event, Refusal};
 
 /// The least numbers of a work area.
 pub const WORK: usize = 8192;
@@ -19,14 +19,9 @@ pub struct Listed {
 /// table has them first, by state, length and input number, and zero records
 /// after them; the work area, of `WORK` numbers at least, is zeros. Refusal 13,
 /// more events than entries, leaves zeros in both; another refusal leaves both
-/// as they were.
-pub fn collect(
-    code: Code,
-    d: u64,
-    table: &mut [Event],
-    work: &mut [u64],
-) -> Result<usize, Refusal> {
-    let answer = calls::collect(code, d, table, work);
+/// as they were. The order's m is not asked about.
+pub fn collect(order: AnyOrder, events: &mut [Event], work: &mut [u64]) -> Result<usize, Refusal> {
+    let answer = calls::collect(order, events, work);
     accepted(answer.refusal)?;
     // Not more than the table's entries.
     Ok(answer.value as usize)
@@ -35,20 +30,24 @@ pub fn collect(
 /// The paths of weight below d, nonzero words of N bits, with the events that
 /// they are joined of: how many there are of both. The path table has two
 /// numbers for each path, its low half first, ordered by weight and number, and
-/// zeros after them; `counts` says how many paths there are of each weight from
+/// zeros after them; `plain` says how many paths there are of each weight from
 /// 0 to d - 1, with zeros after them; the event table is as `collect` leaves it;
 /// the work area, of `WORK` numbers at least, is zeros. Refusals 13, more events
 /// than entries, and 14, more paths than the table takes, leave zeros in all
-/// four; another refusal leaves all four as they were.
+/// four; another refusal leaves all four as they were. The order's m is not
+/// asked about.
 pub fn list(
-    code: Code,
-    d: u64,
+    order: AnyOrder,
     events: &mut [Event],
     paths: &mut [u64],
-    counts: &mut [u64],
+    plain: &mut [u64],
     work: &mut [u64],
 ) -> Result<Listed, Refusal> {
-    let answer = calls::list(code, d, events, paths, counts, work);
+    listed(calls::list(order, events, paths, plain, work))
+}
+
+/// What a call that lists answers.
+pub(crate) fn listed(answer: calls::Listing) -> Result<Listed, Refusal> {
     accepted(answer.refusal)?;
     // Not more than the tables take.
     Ok(Listed {

@@ -1,7 +1,7 @@
 //! An order that the library accepts.
 
 use crate::refusal::accepted;
-use crate::{calls, search, Code, Lent, Refusal};
+use crate::{calls, search, AnyOrder, Lent, Refusal};
 
 /// An order. There is none that questions 1 to 9 would refuse.
 ///
@@ -13,12 +13,25 @@ use crate::{calls, search, Code, Lent, Refusal};
 /// assert_eq!(Order::new(&[1, 4], 1, 4, 2, 6), Err(Refusal::Generator));
 /// ```
 #[derive(Clone, Debug, PartialEq, Eq)]
-pub struct Order {
-    generators: Vec<u64>,
-    v: u64,
-    bits: u64,
-    m: u64,
-    d: u64,
+pub struct Order(AnyOrder);
+
+impl AnyOrder {
+    /// The order of these numbers. Of more than four generators, which question
+    /// 3 refuses, the first four are kept.
+    pub fn new(generators: &[u64], v: u64, bits: u64, m: u64, d: u64) -> AnyOrder {
+        let mut four = [0; 4];
+        for (to, g) in four.iter_mut().zip(generators) {
+            *to = *g;
+        }
+        AnyOrder {
+            n: generators.len() as u64,
+            v,
+            bits,
+            m,
+            d,
+            generators: four,
+        }
+    }
 }
 
 impl Order {
@@ -26,11 +39,7 @@ impl Order {
     /// no. The library is asked: with nothing lent, the search refuses a wrong
     /// order by its question, and a right one by question 10.
     pub fn new(generators: &[u64], v: u64, bits: u64, m: u64, d: u64) -> Result<Order, Refusal> {
-        let code = Code {
-            generators,
-            v,
-            bits,
-        };
+        let order = AnyOrder::new(generators, v, bits, m, d);
         let nothing = Lent {
             events: &mut [],
             paths: &mut [],
@@ -38,15 +47,9 @@ impl Order {
             undetected: &mut [],
             work: &mut [],
         };
-        match search(code, m, d, nothing) {
+        match search(order, nothing) {
             Err(refusal) if refusal != Refusal::Room => Err(refusal),
-            _ => Ok(Order {
-                generators: generators.to_vec(),
-                v,
-                bits,
-                m,
-                d,
-            }),
+            _ => Ok(Order(order)),
         }
     }
 
@@ -54,68 +57,50 @@ impl Order {
     pub fn from_record(bytes: &[u8]) -> Result<Order, Refusal> {
         let answer = calls::read_order(bytes);
         accepted(answer.refusal)?;
-        let four = [answer.g1, answer.g2, answer.g3, answer.g4];
-        Ok(Order {
-            generators: (0..answer.n).zip(four).map(|(_, g)| g).collect(),
-            v: answer.v,
-            bits: answer.bits,
-            m: answer.m,
-            d: answer.d,
-        })
+        Ok(Order(answer.order))
     }
 
     /// The bytes of its record.
     pub fn record(&self) -> Vec<u8> {
         // No number of an accepted order is above 128, no generator above 2^9 - 1.
-        let numbers = [
-            self.generators.len() as u64,
-            self.v,
-            self.bits,
-            self.m,
-            self.d,
-        ];
-        let mut bytes = vec![0, 6 + 2 * self.generators.len() as u8, 1];
-        bytes.extend(numbers.map(|number| number as u8));
-        bytes.extend(
-            self.generators
-                .iter()
-                .flat_map(|&g| (g as u16).to_be_bytes()),
-        );
+        let AnyOrder {
+            n, v, bits, m, d, ..
+        } = self.0;
+        let mut bytes = vec![0, 6 + 2 * n as u8, 1];
+        bytes.extend([n, v, bits, m, d].map(|number| number as u8));
+        let generators = self.generators().iter();
+        bytes.extend(generators.flat_map(|&g| (g as u16).to_be_bytes()));
         bytes
     }
 
-    /// Its code and the length of words.
-    pub fn code(&self) -> Code<'_> {
-        Code {
-            generators: &self.generators,
-            v: self.v,
-            bits: self.bits,
-        }
+    /// The order as the calls take it.
+    pub fn any(&self) -> AnyOrder {
+        self.0
     }
 
     /// The n generators.
     pub fn generators(&self) -> &[u64] {
-        &self.generators
+        &self.0.generators[..self.0.n as usize]
     }
 
     /// v, the memory.
     pub fn v(&self) -> u64 {
-        self.v
+        self.0.v
     }
 
     /// N, the bits of a word.
     pub fn bits(&self) -> u64 {
-        self.bits
+        self.0.bits
     }
 
     /// m, the check degree.
     pub fn m(&self) -> u64 {
-        self.m
+        self.0.m
     }
 
     /// d, the threshold on weights.
     pub fn d(&self) -> u64 {
-        self.d
+        self.0.d
     }
 }
 

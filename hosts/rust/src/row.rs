@@ -52,10 +52,9 @@ impl Row {
 
     /// The lines that `dso` prints.
     pub fn text(&self) -> String {
-        let (order, found) = (&self.order, self.found);
+        let (order, found) = (self.order.any(), self.found);
         let (plain, undetected) = (&self.plain, &self.undetected);
-        let (code, m, d) = (order.code(), order.m(), order.d());
-        written(|buffer| row_text(code, m, d, found, plain, undetected, buffer))
+        written(|buffer| row_text(order, found, plain, undetected, buffer))
     }
 }
 

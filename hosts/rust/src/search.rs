@@ -1,7 +1,8 @@
 //! The search for the best polynomial, the counts of one, and their texts.
 
+use crate::listing::listed;
 use crate::refusal::accepted;
-use crate::{calls, Code, Event, Listed, Refusal};
+use crate::{calls, AnyOrder, Event, Listed, Refusal};
 
 /// The least bytes of a text buffer; no text has more.
 pub const TEXT: usize = 4096;
@@ -44,8 +45,8 @@ pub enum Searched {
 /// paths of each weight from 0 to d - 1 pass the check of the best polynomial,
 /// or of each that shares the best counts, with zeros after them. Refusals 13
 /// and 14 leave zeros in all five; another refusal leaves all five as they were.
-pub fn search(code: Code, m: u64, d: u64, lent: Lent) -> Result<Searched, Refusal> {
-    let answer = calls::search(code, m, d, lent);
+pub fn search(order: AnyOrder, lent: Lent) -> Result<Searched, Refusal> {
+    let answer = calls::search(order, lent);
     if answer.refusal == 15 {
         return Ok(Searched::Tied(answer.left));
     }
@@ -60,14 +61,8 @@ pub fn search(code: Code, m: u64, d: u64, lent: Lent) -> Result<Searched, Refusa
 
 /// The undetected counts of one polynomial, which question 11 asks for degree m
 /// and constant term 1; all tables are left as `search` leaves them.
-pub fn count(code: Code, m: u64, d: u64, polynomial: u64, lent: Lent) -> Result<Listed, Refusal> {
-    let answer = calls::count(code, m, d, polynomial, lent);
-    accepted(answer.refusal)?;
-    // Not more than the tables take.
-    Ok(Listed {
-        events: answer.events as usize,
-        paths: answer.paths as usize,
-    })
+pub fn count(order: AnyOrder, polynomial: u64, lent: Lent) -> Result<Listed, Refusal> {
+    listed(calls::count(order, polynomial, lent))
 }
 
 /// The text of a row, as `dso` prints it, of any numbers: how many bytes of the
@@ -75,15 +70,13 @@ pub fn count(code: Code, m: u64, d: u64, polynomial: u64, lent: Lent) -> Result<
 /// (7), and the sizes are asked for (10: fewer counts than d, a buffer below
 /// `TEXT`); a refusal leaves the buffer as it was.
 pub fn row_text(
-    code: Code,
-    m: u64,
-    d: u64,
+    order: AnyOrder,
     found: Found,
     plain: &[u64],
     undetected: &[u64],
     text: &mut [u8],
 ) -> Result<usize, Refusal> {
-    let answer = calls::row_text(code, m, d, found, plain, undetected, text);
+    let answer = calls::row_text(order, found, plain, undetected, text);
     accepted(answer.refusal)?;
     // Not more than the buffer has.
     Ok(answer.value as usize)

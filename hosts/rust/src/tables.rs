@@ -67,7 +67,7 @@ impl Tables {
     /// The row of the best polynomial of an order. After a tie, `undetected`
     /// has the shared counts.
     pub fn search(&mut self, order: &Order) -> Result<Row, Refusal> {
-        let answer = search(order.code(), order.m(), order.d(), self.lent());
+        let answer = search(order.any(), self.lent());
         self.listed = answer.map_or(0, |_| order.d() as usize);
         match answer? {
             Searched::Found(found) => Ok(self.row(order, found)),
@@ -77,9 +77,8 @@ impl Tables {
 
     /// The row of a polynomial, without a search.
     pub fn count(&mut self, order: &Order, polynomial: u64) -> Result<Row, Refusal> {
-        let (code, m, d) = (order.code(), order.m(), order.d());
-        let answer = count(code, m, d, polynomial, self.lent());
-        self.listed = answer.map_or(0, |_| d as usize);
+        let answer = count(order.any(), polynomial, self.lent());
+        self.listed = answer.map_or(0, |_| order.d() as usize);
         let listed = answer?;
         let found = Found {
             events: listed.events,

@@ -1,18 +1,7 @@
 //! The calls on one word, which is a `u128`.
 
 use crate::refusal::accepted;
-use crate::{calls, Refusal};
-
-/// What the calls take of a code and its words, right or wrong.
-#[derive(Clone, Copy, Debug, PartialEq, Eq)]
-pub struct Code<'a> {
-    /// The n generators.
-    pub generators: &'a [u64],
-    /// The memory.
-    pub v: u64,
-    /// N, the bits of a word.
-    pub bits: u64,
-}
+use crate::{calls, AnyOrder, Refusal};
 
 /// What stripping a word gives.
 #[derive(Clone, Copy, Debug, PartialEq, Eq)]
@@ -47,17 +36,18 @@ pub fn test(bits: u64, m: u64, polynomial: u64, word: u128) -> Result<bool, Refu
     Ok(answer.value == 1)
 }
 
-/// The weight of a word.
-pub fn weigh(code: Code, word: u128) -> Result<u64, Refusal> {
-    let answer = calls::weigh(code, word);
+/// The weight of a word. The order's m and d are not asked about.
+pub fn weigh(order: AnyOrder, word: u128) -> Result<u64, Refusal> {
+    let answer = calls::weigh(order, word);
     accepted(answer.refusal)?;
     Ok(answer.value)
 }
 
 /// The codeword of a word, n bits for each step, each a byte, and zeros to the
-/// end of the output. A refusal leaves the output as it was.
-pub fn encode(code: Code, word: u128, output: &mut [u8]) -> Result<(), Refusal> {
-    accepted(calls::encode(code, word, output))
+/// end of the output. A refusal leaves the output as it was. The order's m and
+/// d are not asked about.
+pub fn encode(order: AnyOrder, word: u128, output: &mut [u8]) -> Result<(), Refusal> {
+    accepted(calls::encode(order, word, output))
 }
 
 /// A word's low and high half.

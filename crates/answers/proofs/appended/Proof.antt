@@ -2,8 +2,8 @@
 -- Assumes nothing.
 use mathlib.Core.Path.{sym, ap, _∙_}
 use native.Mathlib.Omega.{arith}
-use Rattle.answers.specs.declared.Answer.{Answer}
-use Rattle.answers.specs.Cases.{ofAppended}
+use Rattle.answers.specs.declared.HostAnswer.{HostAnswer}
+use Rattle.answers.specs.Model.Cases.{ofAppended}
 use borrow.Author.Needs.{needs}
 use Rattle.answers.proofs.appended.Statement.{statement}
 use Rattle.answers.proofs.appended.Tie as tie
@@ -21,10 +21,10 @@ number-answer-requires : tie.Need-number-answer-requires
 number-answer-requires c κs = search needs
 
 returns : tie.Need-returns
-returns c = (c .word-answer .ensures ∙ sym (ap ofAppended (c .before .before .a .given .1)), omega (arith, ap (λ (r : Answer). r .low) (c .word-answer .ensures)))
+returns c = (c .word-answer .ensures ∙ sym (ap ofAppended (c .before .before .a .given .1)), omega (arith, ap (λ (r : HostAnswer). r .low) (c .word-answer .ensures)))
 
 returns-2 : tie.Need-returns-2
-returns-2 c = (c .number-answer .ensures ∙ sym (ap ofAppended (c .before .before .a2 .given .1)), omega (arith, ap (λ (r : Answer). r .low) (c .number-answer .ensures)))
+returns-2 c = (c .number-answer .ensures ∙ sym (ap ofAppended (c .before .before .a2 .given .1)), omega (arith, ap (λ (r : HostAnswer). r .low) (c .number-answer .ensures)))
 
 pub appended-spec : {M : Type 1} → statement M
 appended-spec =

@@ -1,7 +1,7 @@
 -- Each case as the definition has it.
 -- Assumes nothing.
 use mathlib.Core.Path.{sym, ap, _∙_}
-use Rattle.answers.specs.Cases.{ofCollected}
+use Rattle.answers.specs.Model.Cases.{ofCollected}
 use borrow.Author.Needs.{needs}
 use Rattle.answers.proofs.collected.Statement.{statement}
 use Rattle.answers.proofs.collected.Tie as tie

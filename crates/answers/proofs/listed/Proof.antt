@@ -1,7 +1,7 @@
 -- Each case as the definition has it.
 -- Assumes nothing.
 use mathlib.Core.Path.{sym, ap, _∙_}
-use Rattle.answers.specs.Cases.{ofListed}
+use Rattle.answers.specs.Model.Cases.{ofListed}
 use borrow.Author.Needs.{needs}
 use Rattle.answers.proofs.listed.Statement.{statement}
 use Rattle.answers.proofs.listed.Tie as tie

@@ -1,7 +1,8 @@
 -- Each case as the definition has it.
 -- Assumes nothing.
 use mathlib.Core.Path.{sym, ap, _∙_}
-use Rattle.answers.specs.Cases.{noRecord, ofReading}
+use Rattle.answers.specs.Model.Cases.{ofReading}
+use Rattle.answers.specs.Answers.{noOrder}
 use borrow.Author.Needs.{needs}
 use Rattle.answers.proofs.reading.Statement.{statement}
 use Rattle.answers.proofs.reading.Tie as tie
@@ -22,7 +23,7 @@ returns : tie.Need-returns
 returns c = c .order-answer .ensures ∙ sym (ap ofReading (c .before .before .a .given .1))
 
 returns-2 : tie.Need-returns-2
-unfolding noRecord
+unfolding noOrder
 returns-2 c = c .order-answer2 .ensures ∙ sym (ap ofReading (c .before .before .a2 .given .1))
 
 pub reading-spec : {M : Type 1} → statement M

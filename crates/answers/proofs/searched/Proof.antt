@@ -1,7 +1,7 @@
 -- Each case as the definition has it.
 -- Assumes nothing.
 use mathlib.Core.Path.{sym, ap, _∙_}
-use Rattle.answers.specs.Cases.{ofSearched}
+use Rattle.answers.specs.Model.Cases.{ofSearched}
 use borrow.Author.Needs.{needs}
 use Rattle.answers.proofs.searched.Statement.{statement}
 use Rattle.answers.proofs.searched.Tie as tie

@@ -2,8 +2,8 @@
 -- Assumes nothing.
 use mathlib.Core.Path.{sym, ap, _∙_}
 use native.Mathlib.Omega.{arith}
-use Rattle.answers.specs.declared.Answer.{Answer}
-use Rattle.answers.specs.Cases.{ofStripped}
+use Rattle.answers.specs.declared.HostAnswer.{HostAnswer}
+use Rattle.answers.specs.Model.Cases.{ofStripped}
 use borrow.Author.Needs.{needs}
 use Rattle.answers.proofs.stripped.Statement.{statement}
 use Rattle.answers.proofs.stripped.Tie as tie
@@ -27,13 +27,13 @@ number-answer-requires-2 : tie.Need-number-answer-requires-2
 number-answer-requires-2 c κs = search needs
 
 returns : tie.Need-returns
-returns c = (c .word-answer .ensures ∙ sym (ap ofStripped (c .before .before .a .given .1)), omega (arith, ap (λ (r : Answer). r .low) (c .word-answer .ensures)))
+returns c = (c .word-answer .ensures ∙ sym (ap ofStripped (c .before .before .a .given .1)), omega (arith, ap (λ (r : HostAnswer). r .low) (c .word-answer .ensures)))
 
 returns-2 : tie.Need-returns-2
-returns-2 c = (c .number-answer .ensures ∙ sym (ap ofStripped (c .before .before .a2 .given .1)), omega (arith, ap (λ (r : Answer). r .low) (c .number-answer .ensures)))
+returns-2 c = (c .number-answer .ensures ∙ sym (ap ofStripped (c .before .before .a2 .given .1)), omega (arith, ap (λ (r : HostAnswer). r .low) (c .number-answer .ensures)))
 
 returns-3 : tie.Need-returns-3
-returns-3 c = (c .number-answer2 .ensures ∙ sym (ap ofStripped (c .before .before .a3 .given .1)), omega (arith, ap (λ (r : Answer). r .low) (c .number-answer2 .ensures)))
+returns-3 c = (c .number-answer2 .ensures ∙ sym (ap ofStripped (c .before .before .a3 .given .1)), omega (arith, ap (λ (r : HostAnswer). r .low) (c .number-answer2 .ensures)))
 
 pub stripped-spec : {M : Type 1} → statement M
 stripped-spec =

@@ -1,7 +1,7 @@
 -- Each case as the definition has it.
 -- Assumes nothing.
 use mathlib.Core.Path.{sym, ap, _∙_}
-use Rattle.answers.specs.Cases.{ofWritten}
+use Rattle.answers.specs.Model.Cases.{ofWritten}
 use borrow.Author.Needs.{needs}
 use Rattle.answers.proofs.written.Statement.{statement}
 use Rattle.answers.proofs.written.Tie as tie

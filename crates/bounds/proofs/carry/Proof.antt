@@ -1,24 +1,23 @@
 -- The invariant: the places left, carried on from here, give the whole.
 -- Assumes nothing.
+mod Turns
 use borrow.Author.Needs.{needs}
 use native.Mathlib.Omega.{arith}
-use mathlib.Core.Path.{_≡_, refl}
-use Prim.Native.Nat.{_+_, _-_, _≤_}
-use lib.ListN.{length, length-set}
-use Rattle.bounds.specs.Tables.{carried}
-use Rattle.bounds.proofs.Loops.{carry-begin, carry-again, carry-end}
+use mathlib.Core.Path.{refl}
+use Prim.Native.Nat.{_-_}
+use lib.ListN.{length-set}
+use Rattle.bounds.proofs.carry.Proof.Turns.{Carrying, carry-begin, carry-again, carry-end}
 use Rattle.bounds.proofs.carry.Statement.{statement}
 use Rattle.bounds.proofs.carry.Tie as tie
 
 abbrev Inv-loop : tie.InvT-loop
-Inv-loop work₀ ends starts n from at₀ j₀ work at j =
-    (j ≤ n) × ((length work ≡ length work₀) × (carried (ends + j) (starts + j) (n - j) at work ≡ carried ends starts n from work₀))
+Inv-loop work₀ ends starts n from at₀ j₀ work at j = Carrying ends starts n work₀ from work at j
 
 abbrev μ-loop : tie.MeasureT-loop
 μ-loop work₀ ends starts n from at₀ j₀ work at j = n - j
 
 loop-holds : tie.Need-loop-holds Inv-loop μ-loop
-loop-holds c = (omega arith, (refl, carry-begin _ _ _ _ _))
+loop-holds c = record { reached = omega arith; size = refl; left = carry-begin _ _ _ _ _ }
 
 add-end : tie.Need-add-end Inv-loop μ-loop
 add-end c = search needs
@@ -48,7 +47,13 @@ loop-less : tie.Need-loop-less Inv-loop μ-loop
 loop-less c = omega arith
 
 loop-again : tie.Need-loop-again Inv-loop μ-loop
-loop-again c = let l = c .before .before .before .loop in (omega arith, (simp length-set (l .inv .1 .0), carry-again _ _ _ _ _ _ _ _ (omega arith) (c .larger .ensures) (l .inv .1 .1)))
+loop-again c =
+    let inv = c .before .before .before .loop .inv in
+    record {
+      reached = omega arith;
+      size = simp length-set (inv .size);
+      left = carry-again _ _ _ _ _ _ _ _ (omega arith) (c .larger .ensures) (inv .left);
+    }
 
 add-work-2 : tie.Need-add-work-2 Inv-loop μ-loop
 add-work-2 c = search needs
@@ -60,10 +65,10 @@ slice-write-work-2 : tie.Need-slice-write-work-2 Inv-loop μ-loop
 slice-write-work-2 c = omega arith
 
 same-length : tie.Need-same-length Inv-loop μ-loop
-same-length c = simp length-set (c .before .loop .inv .1 .0)
+same-length c = simp length-set (c .before .loop .inv .size)
 
 returns : tie.Need-returns Inv-loop μ-loop
-returns c = let l = c .before .loop in carry-end _ _ _ (l .j) _ _ _ (omega arith) (l .inv .1 .1)
+returns c = let l = c .before .loop in carry-end _ _ _ (l .j) _ _ _ (omega arith) (l .inv .left)
 
 pub carry-spec : {M : Type 1} → statement M
 carry-spec =

@@ -3,9 +3,10 @@
 use borrow.Author.Needs.{needs}
 use native.Mathlib.Omega.{arith}
 use Prim.Native.Nat.{_-_}
-use Rattle.bounds.proofs.Cases.{decided-long, decided-heavy, decided-end, decided-light, decided-joined, decided-passed, weight-fits}
+use Rattle.bounds.proofs.decide.Proof.Cases.{decided-long, decided-heavy, decided-end, decided-light, decided-joined, decided-passed, weight-fits}
 use Rattle.bounds.proofs.decide.Statement.{statement}
 use Rattle.bounds.proofs.decide.Tie as tie
+mod Cases
 
 returns : tie.Need-returns
 returns c = decided-long _ _ _ (c .if1 .taken)
@@ -29,7 +30,12 @@ shared-slice-read-if5 : tie.Need-shared-slice-read-if5
 shared-slice-read-if5 c = search needs
 
 add-if5-2 : tie.Need-add-if5-2
-add-if5-2 c = let b = c .before .before .before .before .before .before .before .before .before .before .before .before .before in record { fits = weight-fits _ (b .args .e .weight) (b .args .node .length - b .args .e .length) (omega arith) (omega arith) (b .pre .0) }
+add-if5-2 c =
+    let b = c .before .before .before .before .before .before .before .before .before .before .before .before .before in
+    record {
+      fits = weight-fits _ (b .args .e .weight) (b .args .begun .steps - b .args .e .length)
+          (omega arith) (omega arith) (b .pre .small);
+    }
 
 returns-5 : tie.Need-returns-5
 returns-5 c = decided-joined _ _ _ (omega arith) (λ q. absurd (omega arith)) (omega arith) (c .if5 .taken)

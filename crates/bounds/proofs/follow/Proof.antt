@@ -2,8 +2,7 @@
 -- Assumes nothing.
 use borrow.Author.Needs.{needs}
 use native.Mathlib.Omega.{arith}
-use Prim.Native.Nat.{_+_}
-use Rattle.bounds.proofs.Cases.{following-full, following-next, following-longer, start-above, start-not-above}
+use Rattle.bounds.proofs.Cases.{following-full, following-next, following-longer}
 use Rattle.bounds.proofs.follow.Statement.{statement}
 use Rattle.bounds.proofs.follow.Tie as tie
 
@@ -19,6 +18,9 @@ add-if2 c = search needs
 add-if2-2 : tie.Need-add-if2-2
 add-if2-2 c = search needs
 
+add-if2-3 : tie.Need-add-if2-3
+add-if2-3 c = search needs
+
 mul-if2 : tie.Need-mul-if2
 mul-if2 c = search needs
 
@@ -29,7 +31,7 @@ add-result : tie.Need-add-result
 add-result c = search needs
 
 returns-2 : tie.Need-returns-2
-returns-2 c = let a = c .before .before .before .before .args in following-next _ _ _ _ _ _ (omega arith) (start-above (a .work .now) (a .l) (a .k + 1) (c .if2 .taken))
+returns-2 c = following-next _ _ _ _ _ _ (omega arith) (c .if2 .taken)
 
 add-next-length : tie.Need-add-next-length
 add-next-length c = search needs
@@ -38,7 +40,7 @@ next-length-requires : tie.Need-next-length-requires
 next-length-requires c κs = search needs
 
 returns-3 : tie.Need-returns-3
-returns-3 c = let a = c .before .before .before .before .before .args in following-longer _ _ _ _ _ _ _ (omega arith) (start-not-above (a .work .now) (a .l) (a .k + 1) (c .before .if2 .left)) (c .next-length .ensures)
+returns-3 c = following-longer _ _ _ _ _ _ _ (omega arith) (omega arith) (c .next-length .ensures)
 
 pub follow-spec : {M : Type 1} → statement M
 follow-spec =
@@ -48,6 +50,7 @@ follow-spec =
     returns
     add-if2
     add-if2-2
+    add-if2-3
     mul-if2
     shared-slice-read-if2
     add-result

@@ -1,23 +1,22 @@
 -- The invariant: the least weight of those that begin with a length below l.
 -- Assumes nothing.
+mod Turns
 use borrow.Author.Needs.{needs}
 use native.Mathlib.Omega.{arith}
-use mathlib.Core.Path.{_≡_}
-use Prim.Native.Nat.{_+_, _-_, _≤_}
-use Rattle.bounds.specs.Tables.{leastSum}
+use Prim.Native.Nat.{_+_, _-_}
 use Rattle.bounds.proofs.Kept.{sum-small}
-use Rattle.bounds.proofs.Loops.{sum-begin, sum-again, sum-end}
+use Rattle.bounds.proofs.least_sum.Proof.Turns.{Summing, sum-begin, sum-again, sum-end}
 use Rattle.bounds.proofs.least_sum.Statement.{statement}
 use Rattle.bounds.proofs.least_sum.Tie as tie
 
 abbrev Inv-loop : tie.InvT-loop
-Inv-loop work k least₀ l₀ least l = (1 ≤ l) × ((l ≤ k + 1) × (least ≡ leastSum work k (l - 1)))
+Inv-loop work k least₀ l₀ least l = Summing work k least l
 
 abbrev μ-loop : tie.MeasureT-loop
 μ-loop work k least₀ l₀ least l = k + 1 - l
 
 loop-holds : tie.Need-loop-holds Inv-loop μ-loop
-loop-holds c = (omega arith, (omega arith, sum-begin _ _))
+loop-holds c = record { begun = omega arith; reached = omega arith; so-far = sum-begin _ _ }
 
 add-event : tie.Need-add-event Inv-loop μ-loop
 add-event c = omega arith
@@ -38,7 +37,12 @@ shared-slice-read-smaller-2 : tie.Need-shared-slice-read-smaller-2 Inv-loop μ-l
 shared-slice-read-smaller-2 c = let n = c .before .before .before .before .before .pre .0 .enough in omega arith
 
 add-smaller : tie.Need-add-smaller Inv-loop μ-loop
-add-smaller c = let l = c .before .before .before .loop in let a = c .before .before .before .before .before .args in record { fits = sum-small _ (l .l) (a .k - l .l) (omega arith) (omega arith) (c .before .before .before .before .before .pre .0) }
+add-smaller c =
+    let l = c .before .before .before .loop in let a = c .before .before .before .before .before .args in
+    record {
+      fits = sum-small _ (l .l) (a .k - l .l) (omega arith) (omega arith)
+          (c .before .before .before .before .before .pre .0);
+    }
 
 smaller-requires : tie.Need-smaller-requires Inv-loop μ-loop
 smaller-requires c κs = search needs
@@ -50,10 +54,12 @@ loop-less : tie.Need-loop-less Inv-loop μ-loop
 loop-less c = omega arith
 
 loop-again : tie.Need-loop-again Inv-loop μ-loop
-loop-again c = let l = c .before .before .before .before .loop in (omega arith, (omega arith, sum-again _ _ (l .l) _ _ (omega arith) (l .inv .1 .1) (c .smaller .ensures)))
+loop-again c =
+    let l = c .before .before .before .before .loop in
+    record { begun = omega arith; reached = omega arith; so-far = sum-again _ _ (l .l) _ _ (omega arith) (l .inv .so-far) (c .smaller .ensures) }
 
 returns : tie.Need-returns Inv-loop μ-loop
-returns c = let l = c .before .loop in sum-end _ _ (l .l) _ (omega arith) (l .inv .1 .1)
+returns c = let l = c .before .loop in sum-end _ _ (l .l) _ (omega arith) (l .inv .so-far)
 
 pub least-sum-spec : {M : Type 1} → statement M
 least-sum-spec =

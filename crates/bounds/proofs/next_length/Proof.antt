@@ -3,17 +3,19 @@
 use native.Mathlib.Omega.{arith}
 use mathlib.Core.Path.{_≡_}
 use Prim.Native.Nat.{_+_, _-_, _≤_}
-use Rattle.bounds.specs.Tables.{nextIn, nextLength}
+use Rattle.bounds.specs.Model.Places.{lengthCount}
+use Rattle.bounds.specs.Model.Tables.{nextIn, nextLength}
 use Rattle.bounds.proofs.Kept.{sum-small}
-use Rattle.bounds.proofs.Loops.{next-begin, next-found, next-again, next-end}
+use Rattle.bounds.proofs.next_length.Proof.Turns.{next-begin, next-found, next-again, next-end}
 use Rattle.bounds.proofs.next_length.Statement.{statement}
 use Rattle.bounds.proofs.next_length.Tie as tie
+mod Turns
 
 abbrev Inv-loop : tie.InvT-loop
-Inv-loop work left budget l k₀ k = (k ≤ 129) × (nextIn (left + 1 - k) work left budget k ≡ nextLength work left budget l)
+Inv-loop work left budget l k₀ k = (k ≤ lengthCount) × (nextIn (left + 1 - k) work left budget k ≡ nextLength work left budget l)
 
 abbrev μ-loop : tie.MeasureT-loop
-μ-loop work left budget l k₀ k = 129 - k
+μ-loop work left budget l k₀ k = lengthCount - k
 
 loop-holds : tie.Need-loop-holds Inv-loop μ-loop
 loop-holds c = (omega arith, next-begin _ _ _ _)
@@ -28,16 +30,21 @@ mul-if1 : tie.Need-mul-if1 Inv-loop μ-loop
 mul-if1 c = omega arith
 
 shared-slice-read-if1 : tie.Need-shared-slice-read-if1 Inv-loop μ-loop
-shared-slice-read-if1 c = let n = c .before .before .before .pre .0 .enough in omega arith
+shared-slice-read-if1 c = let n = c .before .before .before .pre .small .enough in omega arith
 
 mul-if1-2 : tie.Need-mul-if1-2 Inv-loop μ-loop
 mul-if1-2 c = omega arith
 
 shared-slice-read-if1-2 : tie.Need-shared-slice-read-if1-2 Inv-loop μ-loop
-shared-slice-read-if1-2 c = let n = c .before .before .before .before .pre .0 .enough in omega arith
+shared-slice-read-if1-2 c = let n = c .before .before .before .before .pre .small .enough in omega arith
 
 add-if1 : tie.Need-add-if1 Inv-loop μ-loop
-add-if1 c = let l = c .before .before .before .loop in let a = c .before .before .before .before .args in record { fits = sum-small _ (l .k) (a .left - l .k) (omega arith) (omega arith) (c .before .before .before .before .pre .0) }
+add-if1 c =
+    let l = c .before .before .before .loop in let a = c .before .before .before .before .args in
+    record {
+      fits = sum-small _ (l .k) (a .left - l .k) (omega arith) (omega arith)
+          (c .before .before .before .before .pre .small);
+    }
 
 add-result : tie.Need-add-result Inv-loop μ-loop
 add-result c = omega arith
@@ -46,10 +53,12 @@ mul-result : tie.Need-mul-result Inv-loop μ-loop
 mul-result c = omega arith
 
 shared-slice-read-result : tie.Need-shared-slice-read-result Inv-loop μ-loop
-shared-slice-read-result c = let n = c .before .before .before .before .before .before .pre .0 .enough in omega arith
+shared-slice-read-result c = let n = c .before .before .before .before .before .before .pre .small .enough in omega arith
 
 returns : tie.Need-returns Inv-loop μ-loop
-returns c = let l = c .before .before .before .before .before .loop in next-found _ _ _ (l .k) _ (omega arith) (c .before .if1 .taken) (l .inv .1)
+returns c =
+    let l = c .before .before .before .before .before .loop in
+    next-found _ _ _ (l .k) _ (omega arith) (c .before .if1 .taken) (l .inv .1)
 
 add-k : tie.Need-add-k Inv-loop μ-loop
 add-k c = omega arith
@@ -58,10 +67,12 @@ loop-less : tie.Need-loop-less Inv-loop μ-loop
 loop-less c = omega arith
 
 loop-again : tie.Need-loop-again Inv-loop μ-loop
-loop-again c = let l = c .before .before .before .before .loop in (omega arith, next-again _ _ _ (l .k) _ (omega arith) (omega arith) (l .inv .1))
+loop-again c =
+    let l = c .before .before .before .before .loop in
+    (omega arith, next-again _ _ _ (l .k) _ (omega arith) (omega arith) (l .inv .1))
 
 shared-slice-read-result-2 : tie.Need-shared-slice-read-result-2 Inv-loop μ-loop
-shared-slice-read-result-2 c = let n = c .before .before .before .pre .0 .enough in omega arith
+shared-slice-read-result-2 c = let n = c .before .before .before .pre .small .enough in omega arith
 
 returns-2 : tie.Need-returns-2 Inv-loop μ-loop
 returns-2 c = let l = c .before .before .loop in next-end _ _ _ (l .k) _ (omega arith) (l .inv .1)

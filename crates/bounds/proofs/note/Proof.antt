@@ -2,10 +2,24 @@
 -- Assumes nothing.
 use borrow.Author.Needs.{needs}
 use native.Mathlib.Omega.{arith}
-use lib.ListN.{length-set}
-use Rattle.bounds.proofs.Loops.{noted-is}
+use lib.ListN.{length-set, getD, set}
+use Prim.Native.Nat.{ℕ, _+_, min}
+use mathlib.Core.Path.{_≡_, ap}
+use mathlib.Core.List.{List}
+use Rattle.events.specs.declared.Event.{Event}
+use Rattle.bounds.specs.Model.Places.{stateEndPlace, leastPlace, lengthEndPlace}
+use Rattle.bounds.specs.Model.Tables.{noted}
 use Rattle.bounds.proofs.note.Statement.{statement}
 use Rattle.bounds.proofs.note.Tie as tie
+
+noted-is : (work : List ℕ) (e : Event) (after w : ℕ)
+    → w ≡ min (e .weight) (getD (set (set work (stateEndPlace + e .state) after) (lengthEndPlace + e .length) after)
+    (leastPlace + e .length) 0)
+    → set (set (set work (stateEndPlace + e .state) after) (lengthEndPlace + e .length) after)
+    (leastPlace + e .length) w ≡ noted work e after
+unfolding noted
+noted-is work e after w is =
+    ap (set (set (set work (stateEndPlace + e .state) after) (lengthEndPlace + e .length) after) (leastPlace + e .length)) is
 
 add-state : tie.Need-add-state
 add-state c = search needs

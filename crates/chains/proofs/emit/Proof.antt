@@ -1,10 +1,6 @@
 -- The rotations of the inputs, as one number.
 -- Assumes nothing.
 use borrow.Author.Needs.{needs}
-use Prim.Native.Nat.{ℕ, _^_, _<_}
-use mathlib.Core.Path.{sym, subst}
-use Rattle.bounds.specs.Tables.{bitsAt}
-use Rattle.chains.proofs.Starts.{turned-as}
 use Rattle.chains.proofs.emit.Statement.{statement}
 use Rattle.chains.proofs.emit.Tie as tie
 
@@ -16,14 +12,17 @@ make-requires c κs = search needs
 
 push-turns-requires : tie.Need-push-turns-requires
 push-turns-requires c κs =
-    let p = c .before .before .before .before .before .pre in
-    (p .1 .1 .1, p .1 .0, p .0 .bits-small, subst (λ (x : ℕ). x < 2 ^ bitsAt (c .before .before .before .before .before .args .work .now)) (sym (c .make .ensures)) (p .1 .1 .0))
+    let ask = c .before .before .before .before .before .pre in
+    record {
+      near = ask .near;
+      word = record { some-bits = ask .some-bits; at-most-128 = ask .small .bits-small; fits = rw (c .make .ensures) (ask .word-small) };
+    }
 
 same-length : tie.Need-same-length
 same-length c = search needs
 
 returns : tie.Need-returns
-returns c = turned-as _ _ _ _ _ _ (c .before .before .push-turns .ensures) (c .before .before .before .make .ensures)
+returns c = rw (c .before .before .before .make .ensures) at (c .before .before .push-turns .ensures)
 
 pub emit-spec : {M : Type 1} → statement M
 emit-spec =

@@ -1,13 +1,12 @@
 -- The inputs of the event above those before it.
 -- Assumes nothing.
 use borrow.Author.Needs.{needs}
-use Prim.Native.Nat.{ℕ, _-_, _^_, _<_}
 use native.Mathlib.Omega.{arith}
-use mathlib.Core.Path.{sym, subst}
-use Rattle.bounds.specs.Tables.{bitsAt}
-use Rattle.chains.proofs.Starts.{place-small, input-up, joined-halves}
+use Rattle.bounds.specs.Model.Tables.{bitsAt}
+use Rattle.chains.proofs.extend.Proof.Joint.{place-small, input-up, joined-halves}
 use Rattle.chains.proofs.extend.Statement.{statement}
 use Rattle.chains.proofs.extend.Tie as tie
+mod Joint
 
 shared-slice-read-place : tie.Need-shared-slice-read-place
 shared-slice-read-place c = search needs
@@ -23,13 +22,13 @@ make-requires-2 c κs = search needs
 
 join-input-requires : tie.Need-join-input-requires
 join-input-requires c κs =
-    let a = c .before .before .before .before .before .args in
-    let p = c .before .before .before .before .before .pre in
-    let N = bitsAt (a .work .now) in (
-      place-small N (p .0 .bits-small) (a .node) (a .e) (p .1 .0) (p .1 .1 .0) (p .1 .1 .1 .0),
-      subst (λ (x : ℕ). x < 2 ^ (N - a .node .length)) (sym (c .before .make .ensures)) (p .1 .0 .word-small),
-      input-up N (p .0 .bits-small) (a .node) (a .e) (p .1 .0) (p .1 .1 .0) (p .1 .1 .1 .0) _ (c .make2 .ensures),
-    )
+    let start = c .before .before .before .before .before in
+    let ask = start .pre in
+    record {
+      near = place-small ask;
+      below = rw (c .before .make .ensures) (ask .unfinished .word-small);
+      fits = input-up ask _ (c .make2 .ensures);
+    }
 
 first-or-requires : tie.Need-first-or-requires
 first-or-requires c κs = search needs
@@ -38,12 +37,16 @@ sub-t10 : tie.Need-sub-t10
 sub-t10 c = search needs
 
 sub-t11 : tie.Need-sub-t11
-sub-t11 c = c .before .before .before .before .before .before .before .before .before .before .before .pre .1 .1 .1 .1
+sub-t11 c = search needs
 
 returns : tie.Need-returns
 returns c =
-    let a = c .before .before .before .before .before .before .before .before .before .before .before .args in
-    joined-halves (bitsAt (a .work .now)) (a .node) (a .e) _ _ _ (c .before .before .before .before .before .join-input .result) (c .before .before .before .before .first-or .ensures) (omega (arith, c .before .before .before .before .before .join-input .ok)) (c .before .before .before .before .before .before .before .make .ensures) (c .before .before .before .before .before .before .make2 .ensures) (c .before .before .before .before .before .join-input .ensures)
+    let joined = c .before .before .before .before .before in
+    let a = joined .before .before .before .before .before .before .args in
+    joined-halves (bitsAt (a .work .now)) (a .begun) (a .e) _ _ _ (joined .join-input .result)
+    (c .before .before .before .before .first-or .ensures)
+    (omega (arith, joined .join-input .ok)) (joined .before .before .make .ensures)
+    (joined .before .make2 .ensures) (joined .join-input .ensures)
 
 pub extend-spec : {M : Type 1} → statement M
 extend-spec =

@@ -1,26 +1,35 @@
--- The outer invariant: the first k candidates have been compared. The inner: candidate k and the best agree below weight w, whose words begin at
--- place `at`.
+-- The outer invariant: the first k candidates have been compared. The inner: candidate k and the best agree below weight w, whose words
+-- begin at place `at`.
 -- Assumes nothing.
 use native.Mathlib.Omega.{arith}
 use mathlib.Core.Path.{_≡_, refl, sym, ap₂, _∙_}
+use mathlib.Core.Bool.{Bool}
 use mathlib.Core.List.{List}
 use Prim.Native.Nat.{ℕ, _+_, _-_, _*_, _^_, _≤_, _<_}
 use lib.ListN.{length, getD}
+use Rattle.parity.specs.Model.Parity.{Divisor}
 use Rattle.paths.specs.Part.{pathsBefore}
 use Rattle.paths.proofs.Parts.{sum-none}
-use Rattle.undetected.specs.Steps.{dividedCounts, Divisor}
+use Rattle.undetected.specs.Model.Steps.{dividedCounts}
 use Rattle.undetected.proofs.Counted.{before-next, before-end}
-use Rattle.choice.proofs.Candidates.{few-candidates, degree-of}
+use Rattle.choice.proofs.Candidates.{few-candidates, candidate-divisor}
 use Rattle.choice.proofs.Weighed.{Agree, Verdict, verdict}
 use Rattle.choice.proofs.Comparing.{bestOf, best-length, Met, met-same, met-limit, met-length}
 use Rattle.choice.proofs.Comparing.{met-begin, met-worse, met-better, met-level, met-end}
 use Rattle.choice.proofs.compare.Statement.{statement}
 use Rattle.choice.proofs.compare.Tie as tie
 
+record Level (m d : ℕ) (table plain undetected₀ undetected : List ℕ) (alive₀ alive : List Bool) (k₀ k p at w : ℕ) : Type 0 where
+  same-list : undetected ≡ undetected₀
+  same-flags : alive ≡ alive₀
+  same-candidate : k ≡ k₀
+  within : w ≤ d
+  placed : at ≡ pathsBefore plain w
+  agree : Agree w (dividedCounts m table plain d p) (bestOf m table plain d k)
+
 abbrev Inv-loop : tie.InvT-loop
 Inv-loop table plain undetected₀ bits m d n alive₀ k₀ p rows at₀ w₀ undetected alive k at w =
-    (undetected ≡ undetected₀) × (alive ≡ alive₀) × (k ≡ k₀) × (w ≤ d) × (at ≡ pathsBefore plain w)
-    × Agree w (dividedCounts m table plain d p) (bestOf m table plain d k)
+    Level m d table plain undetected₀ undetected alive₀ alive k₀ k p at w
 
 abbrev μ-loop : tie.MeasureT-loop
 μ-loop table plain undetected₀ bits m d n alive₀ k₀ p rows at₀ w₀ undetected alive k at w = d - w
@@ -31,179 +40,211 @@ Inv-candidates table plain undetected₀ bits m d n alive₀ k₀ undetected ali
 abbrev μ-candidates : tie.MeasureT-candidates
 μ-candidates table plain undetected₀ bits m d n alive₀ k₀ undetected alive k = n - k
 
-abbrev At : Type 0
-At = tie.At-loop Inv-loop μ-loop Inv-candidates μ-candidates
+-- of these invariants and measures
+abbrev Here : (tie.InvT-loop → tie.MeasureT-loop → tie.InvT-candidates → tie.MeasureT-candidates → Type 0) → Type 0
+Here need = need Inv-loop μ-loop Inv-candidates μ-candidates
 
-abbrev start : At → tie.Start Inv-loop μ-loop Inv-candidates μ-candidates
+abbrev Start : Type 0
+Start = Here tie.Start
+
+abbrev At : Type 0
+At = Here tie.At-loop
+
+abbrev start : At → Start
 start l = l .before .before .before .before .before .before .before .before
 
--- the counts of the candidate that is met, and the best so far
-abbrev mine : At → List ℕ
-mine l =
-    let a = start l .args in
-    dividedCounts (a .m) (a .table .now) (a .plain .now) (a .d) (l .before .before .candidate .result)
+-- ---- what holds while weights are compared
 
-abbrev best : At → List ℕ
-best l = let a = start l .args in bestOf (a .m) (a .table .now) (a .plain .now) (a .d) (l .loop .k)
+module _ (l : At) where
+  abbrev s : Start
+  s = start l
 
-met-at : (l : At)
-    → let a = start l .args in
-    Met (a .m) (a .d) (a .n) (a .table .now) (a .plain .now) (a .undetected .now) (l .loop .undetected) (l .loop .alive) (l .loop .k)
-met-at l = met-same _ _ _ _ _ _ _ _ _ _ _ _ (l .loop .inv .0) (l .loop .inv .1) (l .loop .inv .2) (l .before .before .before .before .candidates .inv)
+  abbrev plain : List ℕ
+  plain = s .args .plain .now
 
-named-at : (l : At) → l .before .before .candidate .result ≡ 2 ^ start l .args .m + 2 * l .loop .k + 1
-named-at l = omega (arith, l .before .before .candidate .ensures, l .loop .inv .2)
+  -- the candidate that is met, its counts, and the best so far
+  abbrev p : ℕ
+  p = l .before .before .candidate .result
 
-more-at : (l : At) → l .loop .k < start l .args .n
-more-at l = omega (arith, l .before .before .before .candidates-test .taken, l .loop .inv .2)
+  abbrev mine : List ℕ
+  mine = dividedCounts (s .args .m) (s .args .table .now) plain (s .args .d) p
 
-divisor-at : (l : At) → Divisor (start l .args .m) (l .before .before .candidate .result)
-divisor-at l =
-    let r = start l .pre .0 in
-    (r .1, r .2, degree-of _ (r .1) _ (l .loop .k) _ (r .3) (more-at l) (named-at l))
+  abbrev best : List ℕ
+  best = bestOf (s .args .m) (s .args .table .now) plain (s .args .d) (l .loop .k)
 
-long-at : (l : At) → length (l .loop .undetected) ≡ length (start l .args .undetected .now)
-long-at l = met-length _ _ _ _ _ _ (start l .pre .0 .2) (start l .pre .0 .3) (start l .pre .0 .4) _ _ _ (met-at l)
+  met :
+      let a = s .args in
+      Met (a .m) (a .d) (a .n) (a .table .now) plain (a .undetected .now) (l .loop .undetected) (l .loop .alive) (l .loop .k)
+  met =
+      let i = l .loop .inv in
+      met-same (i .same-list) (i .same-flags) (i .same-candidate) (l .before .before .before .before .candidates .inv)
 
-verdict-at : (c : tie.After-count-up-to Inv-loop μ-loop Inv-candidates μ-candidates)
-    → let l = c .before .before .before .before .before in
+  named : p ≡ 2 ^ s .args .m + 2 * l .loop .k + 1
+  named = omega (arith, l .before .before .candidate .ensures, l .loop .inv .same-candidate)
+
+  more : l .loop .k < s .args .n
+  more = omega (arith, l .before .before .before .candidates-test .taken, l .loop .inv .same-candidate)
+
+  has-flag : l .loop .k < 2048
+  has-flag = omega (arith, more, s .pre .all, few-candidates (s .args .m) (s .pre .choose .degree .at-most-12))
+
+  divisor : Divisor (s .args .m) p
+  divisor = candidate-divisor (s .pre .choose .degree) (s .pre .all) more named
+
+  counts : s .args .d ≤ length (l .loop .undetected)
+  counts = omega (arith, met-length (s .pre) met, s .pre .choose .counts)
+
+  -- the words of weight w lie in the table
+  inside : l .loop .w < s .args .d → 2 * (l .loop .at + getD plain (l .loop .w) 0) ≤ length (s .args .table .now)
+  inside h =
+      let ends = before-end plain (l .loop .w) (s .args .d) (l .loop .at) h (l .loop .inv .placed) in
+      omega (arith, s .pre .choose .readable .inside)
+
+-- once the words of weight w are counted
+abbrev Counted : Type 0
+Counted = Here tie.After-count-up-to
+
+abbrev at : Counted → At
+at c = c .before .before .before .before .before
+
+verdict-at : (c : Counted)
+    → let l = at c in
     Verdict (l .loop .w) (getD (l .loop .undetected) (l .loop .w) 0) (c .count-up-to .result) (best l) (mine l)
 verdict-at c =
-    let l = c .before .before .before .before .before in
-    let s = start l in
+    let l = at c in
+    let asked = start l .pre in
     let h = c .before .before .before .before .loop-test .taken in
-    verdict _ _ _ _ _ _ (s .pre .0 .0) (divisor-at l) _ (l .loop .w) (l .loop .at) (l .before .check-table .ensures) (l .loop .inv .4) (best l) _ _ h
-    (best-length _ _ _ _ (l .loop .k)) (l .loop .inv .5)
-    (met-limit _ _ _ _ _ _ (s .pre .0 .2) (s .pre .0 .3) (s .pre .0 .4) _ _ _ (met-at l) (l .loop .w) h) (c .count-up-to .ensures)
+    verdict (asked .choose .readable) (divisor l) (l .loop .w) (l .before .check-table .ensures) (l .loop .inv .placed) h
+    (best-length asked (l .loop .k)) (l .loop .inv .agree) (met-limit asked (met l) (l .loop .w) h) (c .count-up-to .ensures)
 
-candidates-holds : tie.Need-candidates-holds Inv-loop μ-loop Inv-candidates μ-candidates
-candidates-holds c =
-    let s = c .before .before .before in
-    met-begin _ _ _ _ _ _ (s .pre .0 .2) (s .pre .0 .3) (s .pre .0 .4) (s .pre .1)
+-- ---- the needs, in the order of the code
 
-candidate-requires : tie.Need-candidate-requires Inv-loop μ-loop Inv-candidates μ-candidates
+candidates-holds : Here tie.Need-candidates-holds
+candidates-holds c = met-begin (c .before .before .before .pre)
+
+candidate-requires : Here tie.Need-candidate-requires
 candidate-requires c κs =
-    let s = c .before .before .before .before .before in
-    (s .pre .0 .1, s .pre .0 .2, omega (arith, c .candidates-test .taken, s .pre .0 .3))
+    let asked = c .before .before .before .before .before .pre in
+    record { degree = asked .choose .degree; below = omega (arith, c .candidates-test .taken, asked .all) }
 
-check-table-requires : tie.Need-check-table-requires Inv-loop μ-loop Inv-candidates μ-candidates
+check-table-requires : Here tie.Need-check-table-requires
 check-table-requires c κs =
-    let s = c .before .before .before .before .before .before in
-    let r = s .pre .0 in
-    let degree = degree-of _ (r .1) _ (c .before .before .candidates .k) _ (r .3) (c .before .candidates-test .taken) (c .candidate .ensures) in
-    (r .0 .narrow, r .1, r .2, degree)
+    let asked = c .before .before .before .before .before .before .pre in
+    record {
+      at-most-128 = asked .choose .readable .narrow;
+      divisor = candidate-divisor (asked .choose .degree) (asked .all) (c .before .candidates-test .taken) (c .candidate .ensures);
+    }
 
-loop-holds : tie.Need-loop-holds Inv-loop μ-loop Inv-candidates μ-candidates
-loop-holds c = (refl, refl, refl, omega arith, sum-none _, λ i h. absurd (omega arith))
+loop-holds : Here tie.Need-loop-holds
+loop-holds c = record {
+  same-list = refl;
+  same-flags = refl;
+  same-candidate = refl;
+  within = omega arith;
+  placed = sum-none _;
+  agree = λ i h. absurd (omega arith);
+}
 
-mul-next : tie.Need-mul-next Inv-loop μ-loop Inv-candidates μ-candidates
-mul-next c = let h = start (c .before) .pre .0 .0 .weights in omega arith
+mul-next : Here tie.Need-mul-next
+mul-next c = omega (arith, start (c .before) .pre .choose .readable .weights)
 
-shared-slice-read-next :
-    tie.Need-shared-slice-read-next Inv-loop μ-loop Inv-candidates μ-candidates
-shared-slice-read-next c = let h = start (c .before .before) .pre .0 .0 .weights in omega arith
+shared-slice-read-next : Here tie.Need-shared-slice-read-next
+shared-slice-read-next c = omega (arith, start (c .before .before) .pre .choose .readable .weights)
 
-add-next : tie.Need-add-next Inv-loop μ-loop Inv-candidates μ-candidates
-add-next c =
-    let l = c .before .before in
-    let h = before-end _ (l .loop .w) (start l .args .d) (l .loop .at) (c .before .loop-test .taken) (l .loop .inv .4) in
-    let i = start l .pre .0 .0 .inside in
-    omega arith
+add-next : Here tie.Need-add-next
+add-next c = omega (arith, inside (c .before .before) (c .before .loop-test .taken))
 
-mul-best : tie.Need-mul-best Inv-loop μ-loop Inv-candidates μ-candidates
-mul-best c = let h = start (c .before .before) .pre .0 .0 .weights in omega arith
+mul-best : Here tie.Need-mul-best
+mul-best c = omega (arith, start (c .before .before) .pre .choose .readable .weights)
 
-slice-read-best : tie.Need-slice-read-best Inv-loop μ-loop Inv-candidates μ-candidates
-slice-read-best c = let l = c .before .before .before in omega (arith, long-at l, start l .pre .0 .4, c .before .before .loop-test .taken)
+slice-read-best : Here tie.Need-slice-read-best
+slice-read-best c = omega (arith, counts (c .before .before .before), c .before .before .loop-test .taken)
 
-count-up-to-requires : tie.Need-count-up-to-requires Inv-loop μ-loop Inv-candidates μ-candidates
+count-up-to-requires : Here tie.Need-count-up-to-requires
 count-up-to-requires c κs =
     let l = c .before .before .before .before in
-    let h = before-end _ (l .loop .w) (start l .args .d) (l .loop .at) (c .before .before .before .loop-test .taken) (l .loop .inv .4) in
-    let i = start l .pre .0 .0 .inside in
-    (omega arith, omega arith, start l .pre .0 .2)
+    record {
+      ordered = omega arith;
+      inside = inside l (c .before .before .before .loop-test .taken);
+      at-most-12 = start l .pre .choose .degree .at-most-12;
+    }
 
-array-write-alive : tie.Need-array-write-alive Inv-loop μ-loop Inv-candidates μ-candidates
-array-write-alive c =
-    let l = c .before .before .before .before .before .before in
-    omega (arith, few-candidates (start l .args .m) (start l .pre .0 .2), more-at l, start l .pre .0 .3)
+array-write-alive : Here tie.Need-array-write-alive
+array-write-alive c = omega (arith, has-flag (at (c .before)))
 
-add-k : tie.Need-add-k Inv-loop μ-loop Inv-candidates μ-candidates
+add-k : Here tie.Need-add-k
 add-k c = omega arith
 
-candidates-less : tie.Need-candidates-less Inv-loop μ-loop Inv-candidates μ-candidates
+candidates-less : Here tie.Need-candidates-less
 candidates-less c = omega arith
 
-candidates-again : tie.Need-candidates-again Inv-loop μ-loop Inv-candidates μ-candidates
+candidates-again : Here tie.Need-candidates-again
 candidates-again c =
-    let l = c .before .before .before .before .before .before in
-    let s = start l in
-    met-worse _ _ _ _ _ _ (s .pre .0 .2) (s .pre .0 .3) (s .pre .0 .4) _ _ _ _ (more-at l) (named-at l) (met-at l)
-    (verdict-at (c .before) .worse (c .if1 .taken))
+    let l = at (c .before) in
+    met-worse (start l .pre) (more l) (named l) (met l) (verdict-at (c .before) .worse (c .if1 .taken))
 
-drop-before-requires : tie.Need-drop-before-requires Inv-loop μ-loop Inv-candidates μ-candidates
-drop-before-requires c κs =
-    let l = c .before .before .before .before .before .before .before in
-    omega (arith, few-candidates (start l .args .m) (start l .pre .0 .2), more-at l, start l .pre .0 .3)
+drop-before-requires : Here tie.Need-drop-before-requires
+drop-before-requires c κs = omega (arith, has-flag (at (c .before .before)))
 
-count-from-requires : tie.Need-count-from-requires Inv-loop μ-loop Inv-candidates μ-candidates
+count-from-requires : Here tie.Need-count-from-requires
 count-from-requires c κs =
-    let l = c .before .before .before .before .before .before .before .before .before in
-    let s = start l in
-    (s .pre .0 .0, divisor-at l, omega (arith, l .loop .inv .3), omega (arith, long-at l, s .pre .0 .4), l .loop .inv .4)
+    let l = at (c .before .before .before .before) in
+    record {
+      each = record { readable = start l .pre .choose .readable; divisor = divisor l; counts = counts l };
+      begun = l .loop .inv .within;
+      placed = l .loop .inv .placed;
+    }
 
-add-k-2 : tie.Need-add-k-2 Inv-loop μ-loop Inv-candidates μ-candidates
+add-k-2 : Here tie.Need-add-k-2
 add-k-2 c = omega arith
 
-candidates-less-2 : tie.Need-candidates-less-2 Inv-loop μ-loop Inv-candidates μ-candidates
+candidates-less-2 : Here tie.Need-candidates-less-2
 candidates-less-2 c = omega arith
 
-candidates-again-2 : tie.Need-candidates-again-2 Inv-loop μ-loop Inv-candidates μ-candidates
+candidates-again-2 : Here tie.Need-candidates-again-2
 candidates-again-2 c =
     let f = c .before .before in
     let v = f .before .before .before .before .before in
-    let l = v .before .before .before .before .before in
-    let s = start l in
-    met-better _ _ _ _ _ _ (s .pre .0 .2) (s .pre .0 .3) (s .pre .0 .4) _ _ _ _ (more-at l) (named-at l) (met-at l)
-    (verdict-at v .better (f .before .before .before .if2 .taken)) (l .loop .w) (l .loop .inv .3) (l .loop .inv .5)
-    _ (f .before .before .drop-before .ensures) _ (f .count-from .ensures)
+    let l = at v in
+    met-better (start l .pre) (more l) (named l) (met l) (verdict-at v .better (f .before .before .before .if2 .taken))
+    (l .loop .w) (l .loop .inv .within) (l .loop .inv .agree) (f .before .before .drop-before .ensures) (f .count-from .ensures)
 
-add-w : tie.Need-add-w Inv-loop μ-loop Inv-candidates μ-candidates
+add-w : Here tie.Need-add-w
 add-w c = omega arith
 
-loop-less : tie.Need-loop-less Inv-loop μ-loop Inv-candidates μ-candidates
+loop-less : Here tie.Need-loop-less
 loop-less c = omega arith
 
-loop-again : tie.Need-loop-again Inv-loop μ-loop Inv-candidates μ-candidates
+loop-again : Here tie.Need-loop-again
 loop-again c =
     let v = c .before .before in
-    let l = v .before .before .before .before .before in
+    let l = at v in
     let i = l .loop .inv in
-    let h : l .loop .w + 1 ≤ start l .args .d = omega (arith, v .before .before .before .before .loop-test .taken) in
-    (i .0, i .1, i .2, h, ap₂ _+_ (i .4) refl ∙ sym (before-next _ _), verdict-at v .level (omega (arith, c .if2 .left, c .before .if1 .left)))
+    record {
+      same-list = i .same-list;
+      same-flags = i .same-flags;
+      same-candidate = i .same-candidate;
+      within = omega (arith, v .before .before .before .before .loop-test .taken);
+      placed = ap₂ _+_ (i .placed) refl ∙ sym (before-next _ _);
+      agree = verdict-at v .level (omega (arith, c .if2 .left, c .before .if1 .left));
+    }
 
-add-k-3 : tie.Need-add-k-3 Inv-loop μ-loop Inv-candidates μ-candidates
+add-k-3 : Here tie.Need-add-k-3
 add-k-3 c = omega arith
 
-candidates-less-3 : tie.Need-candidates-less-3 Inv-loop μ-loop Inv-candidates μ-candidates
+candidates-less-3 : Here tie.Need-candidates-less-3
 candidates-less-3 c = omega arith
 
-candidates-again-3 : tie.Need-candidates-again-3 Inv-loop μ-loop Inv-candidates μ-candidates
+candidates-again-3 : Here tie.Need-candidates-again-3
 candidates-again-3 c =
     let l = c .before in
-    let s = start l in
-    met-level _ _ _ _ _ _ (s .pre .0 .2) (s .pre .0 .3) (s .pre .0 .4) _ _ _ _ (more-at l) (named-at l) (met-at l)
-    (λ i h. l .loop .inv .5 i (omega (arith, c .loop-test .left)))
+    met-level (start l .pre) (more l) (named l) (met l) (λ i h. l .loop .inv .agree i (omega (arith, c .loop-test .left)))
 
-same-length : tie.Need-same-length Inv-loop μ-loop Inv-candidates μ-candidates
-same-length c =
-    let s = c .before .before .before .before .before in
-    met-length _ _ _ _ _ _ (s .pre .0 .2) (s .pre .0 .3) (s .pre .0 .4) _ _ _ (c .before .candidates .inv)
+same-length : Here tie.Need-same-length
+same-length c = met-length (c .before .before .before .before .before .pre) (c .before .candidates .inv)
 
-returns : tie.Need-returns Inv-loop μ-loop Inv-candidates μ-candidates
-returns c =
-    let s = c .before .before .before .before .before in
-    met-end _ _ _ _ _ _ (s .pre .0 .2) (s .pre .0 .3) (s .pre .0 .4) _ _ _ (c .candidates-test .left) (c .before .candidates .inv)
+returns : Here tie.Need-returns
+returns c = met-end (c .before .before .before .before .before .pre) (c .candidates-test .left) (c .before .candidates .inv)
 
 pub compare-spec : {M : Type 1} → statement M
 compare-spec =

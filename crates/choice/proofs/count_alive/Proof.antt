@@ -5,7 +5,7 @@ use mathlib.Core.Path.{_≡_, _∙_}
 use mathlib.Core.Logic.{⊎-elim}
 use Prim.Native.Nat.{_-_, _≤_}
 use lib.ListN.{length}
-use Rattle.choice.specs.Steps.{aliveBelow}
+use Rattle.choice.specs.Model.Steps.{aliveBelow}
 use Rattle.choice.proofs.Flags.{counted-none, counted-up, counted-down, counted-few, counted-all}
 use Rattle.choice.proofs.count_alive.Statement.{statement}
 use Rattle.choice.proofs.count_alive.Tie as tie

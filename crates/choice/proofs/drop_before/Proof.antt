@@ -3,7 +3,7 @@
 use native.Mathlib.Omega.{arith}
 use mathlib.Core.Path.{_≡_}
 use Prim.Native.Nat.{_-_, _≤_}
-use Rattle.choice.specs.Steps.{dropped}
+use Rattle.choice.specs.Model.Steps.{dropped}
 use Rattle.choice.proofs.Flags.{dropped-none, dropped-more, dropped-all}
 use Rattle.choice.proofs.drop_before.Statement.{statement}
 use Rattle.choice.proofs.drop_before.Tie as tie

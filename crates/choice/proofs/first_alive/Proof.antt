@@ -4,7 +4,7 @@ use native.Mathlib.Omega.{arith}
 use mathlib.Core.Path.{_≡_}
 use mathlib.Core.List.{[]}
 use Prim.Native.Nat.{_-_, _≤_}
-use Rattle.choice.specs.Steps.{aliveBelow}
+use Rattle.choice.specs.Model.Steps.{aliveBelow}
 use Rattle.choice.proofs.Flags.{none-below, none-more, first-up, first-none}
 use Rattle.choice.proofs.first_alive.Statement.{statement}
 use Rattle.choice.proofs.first_alive.Tie as tie

@@ -1,55 +1,84 @@
 -- Refused by one of the questions with the output as it was, or encoded.
 -- Assumes nothing.
-use mathlib.Core.Path.{refl, sym, _∙_}
+use mathlib.Core.Path.{sym, ap, _∙_}
+use mathlib.Core.List.{List}
+use Prim.Native.Nat.{ℕ}
 use native.Mathlib.Omega.{arith}
-use borrow.Author.Tests.{not-true, not-false, ltb-true}
-use Rattle.code.specs.Calls.{outputAfter}
-use Rattle.code.proofs.Calls.{accepted, encode-refused-early, encode-no-room, encode-refused-late, encode-answered, product-small}
 use borrow.Author.Needs.{needs}
+use borrow.Author.Tests.{not-true, not-false, ltb-true}
+use Rattle.order.specs.Answer.{accepted}
+use Rattle.order.specs.Answers.{orderIn}
+use Rattle.order.proofs.Asked.{length-orderIn, few-in}
+use Rattle.code.proofs.Calls.{accepted-code, encode-refused-early, encode-no-room, encode-refused-late, encode-answered, product-small}
 use Rattle.code.proofs.encode.Statement.{statement}
 use Rattle.code.proofs.encode.Tie as tie
 
-ask-code-requires : tie.Need-ask-code-requires
-ask-code-requires c κs = search needs
+ask-order-requires : tie.Need-ask-order-requires
+ask-order-requires c κs = tt
 
 returns : tie.Need-returns
-unfolding outputAfter
-returns c = (encode-refused-early _ _ _ _ _ _ (c .before .ask-code .ensures) (c .if1 .taken), refl)
+returns c = encode-refused-early _ _ (c .before .ask-order .ensures) _ _ (c .if1 .taken)
 
 mul-needed : tie.Need-mul-needed
-mul-needed c = let g = accepted _ _ _ _ (c .before .ask-code .ensures) (c .if1 .left) in omega (arith, product-small _ _ (g .at-most-4) (g .at-most-128))
+unfolding orderIn
+mul-needed c =
+    let o = c .before .before .before .before .args .order in
+    let acc = accepted-code _ _ (c .before .before .ask-order .ensures) (c .before .if1 .left) in
+    omega (arith, product-small (o .n) (o .bits) (few-in o acc) (acc .at-most-128))
 
 returns-2 : tie.Need-returns-2
-unfolding outputAfter
-returns-2 c = (encode-no-room _ _ _ _ _ _ (c .before .before .ask-code .ensures) (c .before .if1 .left) (c .if2 .taken), refl)
+unfolding orderIn
+returns-2 c =
+    let asked = c .before .before in
+    encode-no-room _ _ (asked .before .ask-order .ensures) _ _ (asked .if1 .left)
+    (rw (length-orderIn (asked .before .before .before .args .order)) (c .if2 .taken))
 
 is-below-requires : tie.Need-is-below-requires
-is-below-requires c κs = search needs
+is-below-requires c κs = tt
 
 returns-3 : tie.Need-returns-3
-unfolding outputAfter
-returns-3 c = (encode-refused-late _ _ _ _ _ _ (c .before .before .before .before .ask-code .ensures) (c .before .before .before .if1 .left) (c .before .before .if2 .left) (sym (c .before .is-below .ensures) ∙ not-true _ (c .if3 .taken)), refl)
+unfolding orderIn
+returns-3 c =
+    let asked = c .before .before .before .before in
+    encode-refused-late _ _ (asked .before .ask-order .ensures) _ _ (asked .if1 .left)
+    (rw (length-orderIn (asked .before .before .before .args .order)) (c .before .before .if2 .left))
+    (sym (c .before .is-below .ensures) ∙ not-true _ (c .if3 .taken))
 
-encode-steps-requires : tie.Need-encode-steps-requires
-encode-steps-requires c κs = let g = accepted _ _ _ _ (c .before .before .before .before .before .ask-code .ensures) (c .before .before .before .before .if1 .left) in (omega arith, g .at-most-8, g .memory-fits, g .at-most-128, ltb-true _ _ (sym (c .before .before .is-below .ensures) ∙ not-false _ (c .before .if3 .left)), g .in-range, c .before .before .before .if2 .left)
+encode-in-requires : tie.Need-encode-in-requires
+unfolding orderIn
+encode-in-requires c κs =
+    let asked = c .before .before .before .before .before in
+    record {
+      word = record {
+        code = accepted-code _ _ (asked .before .ask-order .ensures) (asked .if1 .left);
+        fits = ltb-true _ _ (sym (c .before .before .is-below .ensures) ∙ not-false _ (c .before .if3 .left));
+      };
+      room = rw (length-orderIn (asked .before .before .before .args .order)) (c .before .before .before .if2 .left);
+    }
 
 same-length : tie.Need-same-length
 same-length c = search needs
 
 returns-4 : tie.Need-returns-4
-unfolding outputAfter
-returns-4 c = (encode-answered _ _ _ _ _ _ (c .before .before .before .before .before .before .before .before .ask-code .ensures) (c .before .before .before .before .before .before .before .if1 .left) (c .before .before .before .before .before .before .if2 .left) (sym (c .before .before .before .before .before .is-below .ensures) ∙ not-false _ (c .before .before .before .before .if3 .left)), c .before .before .encode-steps .ensures)
+unfolding orderIn
+returns-4 c =
+    let below = c .before .before .before .before in
+    let asked = below .before .before .before .before in
+    ap (λ (l : List ℕ). (accepted tt, l)) (c .before .before .encode-in .ensures)
+    ∙ encode-answered _ _ (asked .before .ask-order .ensures) _ _ (asked .if1 .left)
+    (rw (length-orderIn (asked .before .before .before .args .order)) (below .before .before .if2 .left))
+    (sym (below .before .is-below .ensures) ∙ not-false _ (below .if3 .left))
 
 pub encode-spec : {M : Type 1} → statement M
 encode-spec =
     tie.close
     (tie.spec
-    ask-code-requires
+    ask-order-requires
     returns
     mul-needed
     returns-2
     is-below-requires
     returns-3
-    encode-steps-requires
+    encode-in-requires
     same-length
     returns-4)

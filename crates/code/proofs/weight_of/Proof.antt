@@ -2,7 +2,8 @@
 -- Assumes nothing.
 use borrow.Author.Needs.{needs}
 use mathlib.Core.Path.{_≡_}
-use Prim.Native.Nat.{_+_, _-_, _*_, _≤_, zero-le}
+use mathlib.Core.List.{List}
+use Prim.Native.Nat.{ℕ, _+_, _-_, _*_, _≤_, zero-le}
 use native.Mathlib.Nat.{zero-add}
 use native.Mathlib.Omega.{arith}
 use lib.ListN.{length, drop}
@@ -10,19 +11,24 @@ use Rattle.lists.proofs.Scan.{all-at}
 use Rattle.poly.specs.Word.{number}
 use Rattle.order.proofs.Answers.{below-of-range}
 use Rattle.code.specs.Weight.{weight}
+use Rattle.code.proofs.Calls.{short-word}
 use Rattle.code.proofs.Weights.{weight-more, weight-end, ones-output-le}
 use Rattle.code.proofs.weight_of.Statement.{statement}
 use Rattle.code.proofs.weight_of.Tie as tie
 
+record Weighing (gs : List ℕ) (bits u total i : ℕ) : Type 0 where
+  within : i ≤ length gs
+  small : total ≤ 128 * i
+  whole : total + weight bits (drop i gs) u ≡ weight bits gs u
+
 abbrev Inv-loop : tie.InvT-loop
-Inv-loop generators v bits word total₀ i₀ total i =
-    (i ≤ length generators) × (total ≤ 128 * i) × (total + weight bits (drop i generators) (number word) ≡ weight bits generators (number word))
+Inv-loop generators v bits word total₀ i₀ total i = Weighing generators bits (number word) total i
 
 abbrev μ-loop : tie.MeasureT-loop
 μ-loop generators v bits word total₀ i₀ total i = length generators - i
 
 loop-holds : tie.Need-loop-holds Inv-loop μ-loop
-loop-holds c = (zero-le, zero-le, zero-add _)
+loop-holds c = record { within = zero-le; small = zero-le; whole = zero-add _ }
 
 mul-cyclic-product : tie.Need-mul-cyclic-product Inv-loop μ-loop
 mul-cyclic-product c = search needs
@@ -31,13 +37,23 @@ shared-slice-read-cyclic-product : tie.Need-shared-slice-read-cyclic-product Inv
 shared-slice-read-cyclic-product c = omega arith
 
 cyclic-product-requires : tie.Need-cyclic-product-requires Inv-loop μ-loop
-cyclic-product-requires c κs = let a = c .before .before .before .before .args in let p = c .before .before .before .before .pre in (p .0, p .1, p .2, p .4, below-of-range (a .v) _ (all-at _ (a .generators .now) 0 (c .before .before .loop .i) (p .5) (omega arith)))
+cyclic-product-requires c κs =
+    let a = c .before .before .before .before .args in
+    let p = c .before .before .before .before .pre in
+    record {
+      word = short-word p;
+      small-memory = omega arith;
+      in-range = below-of-range (a .v) _ (all-at _ (a .generators .now) 0 (c .before .before .loop .i) (p .code .in-range) (omega arith));
+    }
 
 count-requires : tie.Need-count-requires Inv-loop μ-loop
 count-requires c κs = tt
 
 add-total : tie.Need-add-total Inv-loop μ-loop
-add-total c = let p = c .before .before .before .before .before .before .pre in let l = c .before .before .before .before .loop .inv in omega (arith, ones-output-le _ _ _ _ _ (p .0) (p .1) (c .before .cyclic-product .ensures) (c .count .ensures))
+add-total c =
+    let p = c .before .before .before .before .before .before .pre in
+    let l = c .before .before .before .before .loop .inv in
+    omega (arith, ones-output-le _ _ _ _ _ (short-word p) (c .before .cyclic-product .ensures) (c .count .ensures))
 
 add-i : tie.Need-add-i Inv-loop μ-loop
 add-i c = omega arith
@@ -46,10 +62,21 @@ loop-less : tie.Need-loop-less Inv-loop μ-loop
 loop-less c = omega arith
 
 loop-again : tie.Need-loop-again Inv-loop μ-loop
-loop-again c = let p = c .before .before .before .before .before .before .pre in let a = c .before .before .before .before .before .before .args in let l = c .before .before .before .before .loop in (omega arith, omega (arith, ones-output-le _ _ _ _ _ (p .0) (p .1) (c .before .cyclic-product .ensures) (c .count .ensures)), weight-more _ (a .generators .now) _ (l .i) _ _ _ (omega arith) (l .inv .2) (c .before .cyclic-product .ensures) (c .count .ensures))
+loop-again c =
+    let start = c .before .before .before .before .before .before in
+    let l = c .before .before .before .before .loop in
+    let product = c .before .cyclic-product .ensures in
+    let ones = c .count .ensures in
+    record {
+      within = omega arith;
+      small = omega (arith, ones-output-le _ _ _ _ _ (short-word (start .pre)) product ones);
+      whole = weight-more _ (start .args .generators .now) _ (l .i) _ _ _ (omega arith) (l .inv .whole) product ones;
+    }
 
 returns : tie.Need-returns Inv-loop μ-loop
-returns c = let a = c .before .before .before .args in let l = c .before .loop in weight-end _ (a .generators .now) _ (l .i) _ (omega arith) (l .inv .2)
+returns c =
+    let l = c .before .loop in
+    weight-end _ (c .before .before .before .args .generators .now) _ (l .i) _ (omega arith) (l .inv .whole)
 
 pub weight-of-spec : {M : Type 1} → statement M
 weight-of-spec =

@@ -1,12 +1,12 @@
 -- Refused by one of the questions, or the message shifted up and its remainder added.
 -- Assumes nothing.
-use mathlib.Core.Path.{sym, ap, _∙_, subst, subst⁻¹}
-use Prim.Native.Nat.{ℕ, _^_, _<_}
+use mathlib.Core.Path.{sym, ap, _∙_}
 use native.Mathlib.Nat.{le-of-lt}
 use native.Mathlib.Omega.{arith}
 use borrow.Author.Tests.{not-true, not-false, ltb-true}
-use Rattle.crc.specs.Check.{word}
-use Rattle.crc.proofs.Calls.{accepted, append-refused-early, append-refused-late, append-answered, shifted-lt, shifted-fits, append-parts}
+use Rattle.order.specs.Answer.{accepted}
+use Rattle.crc.specs.Check.{appendCall}
+use Rattle.crc.proofs.Calls.{accepted-polynomial, refused-early, refused-late, answered, shifted-lt, shifted-fits, append-parts}
 use borrow.Author.Needs.{needs}
 use Rattle.crc.proofs.append.Statement.{statement}
 use Rattle.crc.proofs.append.Tie as tie
@@ -15,22 +15,42 @@ ask-polynomial-requires : tie.Need-ask-polynomial-requires
 ask-polynomial-requires c κs = search needs
 
 returns : tie.Need-returns
-returns c = append-refused-early _ _ _ _ _ (c .before .ask-polynomial .ensures) (c .if1 .taken)
+unfolding appendCall
+returns c = refused-early _ _ _ _ _ _ _ (c .before .ask-polynomial .ensures) (c .if1 .taken)
 
 sub-is-below : tie.Need-sub-is-below
-sub-is-below c = let a = c .before .before .args in let g = accepted (a .bits) (a .m) (a .polynomial) (sym (c .before .ask-polynomial .ensures) ∙ c .if1 .left) in le-of-lt (g .degree-below)
+sub-is-below c = let a = c .before .before .args in let g = accepted-polynomial (a .bits) (a .m) (a .polynomial) (sym (c .before .ask-polynomial .ensures) ∙ c .if1 .left) in le-of-lt (g .degree-below)
 
 is-below-requires : tie.Need-is-below-requires
 is-below-requires c κs = search needs
 
 returns-2 : tie.Need-returns-2
-returns-2 c = append-refused-late _ _ _ _ _ (c .before .before .before .ask-polynomial .ensures) (c .before .before .if1 .left) (sym (c .before .is-below .ensures) ∙ not-true _ (c .if2 .taken))
+unfolding appendCall
+returns-2 c = refused-late _ _ _ _ _ _ _ (c .before .before .before .ask-polynomial .ensures) (c .before .before .if1 .left) (sym (c .before .is-below .ensures) ∙ not-true _ (c .if2 .taken))
 
 shift-up-requires : tie.Need-shift-up-requires
-shift-up-requires c κs = let a = c .before .before .before .before .args in let g = accepted (a .bits) (a .m) (a .polynomial) (sym (c .before .before .before .ask-polynomial .ensures) ∙ c .before .before .if1 .left) in (omega arith, omega arith, shifted-fits (a .bits) (a .m) _ (g .at-most-128) (g .degree-below) (ltb-true _ _ (sym (c .before .is-below .ensures) ∙ not-false _ (c .if2 .left))))
+shift-up-requires c κs =
+    let a = c .before .before .before .before .args in
+    let none = sym (c .before .before .before .ask-polynomial .ensures) ∙ c .before .before .if1 .left in
+    let g = accepted-polynomial (a .bits) (a .m) (a .polynomial) none in
+    record {
+      by = record { some-bits = omega arith; below-64 = omega arith };
+      fits =
+          shifted-fits (a .bits) (a .m) _ (g .at-most-128) (g .degree-below)
+          (ltb-true _ _ (sym (c .before .is-below .ensures) ∙ not-false _ (c .if2 .left)));
+    }
 
 remainder-of-requires : tie.Need-remainder-of-requires
-remainder-of-requires c κs = let a = c .before .before .before .before .before .args in let g = accepted (a .bits) (a .m) (a .polynomial) (sym (c .before .before .before .before .ask-polynomial .ensures) ∙ c .before .before .before .if1 .left) in (g .at-most-128, g .at-most-12, g .degree, subst⁻¹ (λ (x : ℕ). x < 2 ^ a .bits) (c .shift-up .ensures) (shifted-lt (a .bits) (a .m) _ (g .degree-below) (ltb-true _ _ (sym (c .before .before .is-below .ensures) ∙ not-false _ (c .before .if2 .left)))))
+remainder-of-requires c κs =
+    let a = c .before .before .before .before .before .args in
+    let none = sym (c .before .before .before .before .ask-polynomial .ensures) ∙ c .before .before .before .if1 .left in
+    let g = accepted-polynomial (a .bits) (a .m) (a .polynomial) none in
+    let below = ltb-true _ _ (sym (c .before .before .is-below .ensures) ∙ not-false _ (c .before .if2 .left)) in
+    record {
+      modulus = record { at-most-12 = g .at-most-12; degree = g .degree };
+      at-most-128 = g .at-most-128;
+      fits = rw (c .shift-up .ensures) (shifted-lt (a .bits) (a .m) _ (g .degree-below) below);
+    }
 
 make-requires : tie.Need-make-requires
 make-requires c κs = search needs
@@ -39,7 +59,8 @@ xor-requires : tie.Need-xor-requires
 xor-requires c κs = search needs
 
 returns-3 : tie.Need-returns-3
-returns-3 c = ap word (append-parts _ _ _ _ _ _ _ (c .before .before .before .shift-up .ensures) (c .before .before .remainder-of .ensures) (c .before .make .ensures) (c .xor .ensures)) ∙ append-answered _ _ _ _ _ (c .before .before .before .before .before .before .before .ask-polynomial .ensures) (c .before .before .before .before .before .before .if1 .left) (sym (c .before .before .before .before .before .is-below .ensures) ∙ not-false _ (c .before .before .before .before .if2 .left))
+unfolding appendCall
+returns-3 c = ap accepted (append-parts _ _ _ _ _ _ _ (c .before .before .before .shift-up .ensures) (c .before .before .remainder-of .ensures) (c .before .make .ensures) (c .xor .ensures)) ∙ answered _ _ _ _ _ _ _ (c .before .before .before .before .before .before .before .ask-polynomial .ensures) (c .before .before .before .before .before .before .if1 .left) (sym (c .before .before .before .before .before .is-below .ensures) ∙ not-false _ (c .before .before .before .before .if2 .left))
 
 pub append-spec : {M : Type 1} → statement M
 append-spec =

@@ -2,7 +2,7 @@
 -- Assumes nothing.
 use mathlib.Core.Path.{ap, _∙_}
 use Rattle.answers.proofs.Hosts.{order-told}
-use Rattle.answers.specs.Cases.{ofReading}
+use Rattle.answers.specs.Model.Cases.{ofReading}
 use borrow.Author.Needs.{needs}
 use Rattle.dohvrin.proofs.dohvrin_read_order.Statement.{statement}
 use Rattle.dohvrin.proofs.dohvrin_read_order.Tie as tie

@@ -15,7 +15,7 @@ same-length : tie.Need-same-length
 same-length c = search needs
 
 returns : tie.Need-returns
-returns c = text-answer (c .before .before .before .write-refusal .result) _ _ _ (c .written .ensures) (c .before .before .before .write-refusal .ensures)
+returns c = text-answer _ (c .before .before .before .write-refusal .result) _ _ (c .written .ensures) (c .before .before .before .write-refusal .ensures)
 
 pub dohvrin-refusal-text-spec : {M : Type 1} → statement M
 dohvrin-refusal-text-spec =

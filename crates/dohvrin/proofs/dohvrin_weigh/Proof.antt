@@ -17,7 +17,7 @@ weighed-requires : tie.Need-weighed-requires
 weighed-requires c κs = search needs
 
 returns : tie.Need-returns
-returns c = weigh-answer (c .before .weigh .result) _ _ (c .weighed .ensures) (c .before .weigh .ensures ∙ ap (weighCall _ _ _) (c .before .before .make .ensures))
+returns c = weigh-answer (c .before .weigh .result) _ _ (c .weighed .ensures) (c .before .weigh .ensures ∙ ap (weighCall _) (c .before .before .make .ensures))
 
 pub dohvrin-weigh-spec : {M : Type 1} → statement M
 dohvrin-weigh-spec = tie.close (tie.spec make-requires weigh-requires weighed-requires returns)

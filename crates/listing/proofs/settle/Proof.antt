@@ -12,14 +12,14 @@ returns c = settled-full _ _ _ _ _ (c .if1 .taken)
 sort-requires : tie.Need-sort-requires
 sort-requires c κs = c .before .before .before .before .pre .narrow (c .before .if1 .left)
 
-sub-counts : tie.Need-sub-counts
-sub-counts c = c .before .before .before .before .before .before .before .pre .narrow (c .before .before .before .before .if1 .left) .part .ordered
+sub-plain : tie.Need-sub-plain
+sub-plain c = c .before .before .before .before .before .before .before .pre .narrow (c .before .before .before .before .if1 .left) .part .ordered
 
-mul-counts : tie.Need-mul-counts
-mul-counts c = search needs
+mul-plain : tie.Need-mul-plain
+mul-plain c = search needs
 
-slice-write-counts : tie.Need-slice-write-counts
-slice-write-counts c = search needs
+slice-write-plain : tie.Need-slice-write-plain
+slice-write-plain c = search needs
 
 same-length : tie.Need-same-length
 same-length c = search needs
@@ -36,9 +36,9 @@ settle-spec =
     (tie.spec
     returns
     sort-requires
-    sub-counts
-    mul-counts
-    slice-write-counts
+    sub-plain
+    mul-plain
+    slice-write-plain
     same-length
     same-length-2
     returns-2)

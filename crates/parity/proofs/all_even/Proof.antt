@@ -3,7 +3,7 @@
 use mathlib.Core.Path.{_≡_, sym, _∙_}
 use Prim.Native.Nat.{_-_, _≤_}
 use native.Mathlib.Omega.{arith}
-use Rattle.parity.specs.Parity.{evenFrom, allEven}
+use Rattle.parity.specs.Model.Parity.{evenFrom, allEven}
 use Rattle.parity.proofs.Checks.{rows-all, four-odd, four-even}
 use Rattle.parity.proofs.all_even.Statement.{statement}
 use Rattle.parity.proofs.all_even.Tie as tie
@@ -26,8 +26,7 @@ odd-of-four-requires c κs = omega arith
 returns : tie.Need-returns Inv-loop μ-loop
 returns c =
     let l = c .before .before .before .loop in
-    let a = c .before .before .before .before .args in
-    sym (four-odd (a .rows .now) (a .m) (a .low) (a .high) (l .i) (omega arith) (λ e. c .if1 .taken (c .before .odd-of-four .ensures ∙ e))) ∙ l .inv .1
+    sym (four-odd _ _ _ _ (l .i) (omega arith) (λ e. c .if1 .taken (c .before .odd-of-four .ensures ∙ e))) ∙ l .inv .1
 
 add-i : tie.Need-add-i Inv-loop μ-loop
 add-i c = omega arith
@@ -38,8 +37,7 @@ loop-less c = omega arith
 loop-again : tie.Need-loop-again Inv-loop μ-loop
 loop-again c =
     let l = c .before .before .before .loop in
-    let a = c .before .before .before .before .args in
-    (omega arith, sym (four-even (a .rows .now) (a .m) (a .low) (a .high) (l .i) (omega arith) (sym (c .before .odd-of-four .ensures) ∙ c .if1 .left)) ∙ l .inv .1)
+    (omega arith, sym (four-even _ _ _ _ (l .i) (omega arith) (sym (c .before .odd-of-four .ensures) ∙ c .if1 .left)) ∙ l .inv .1)
 
 rest-even-requires : tie.Need-rest-even-requires Inv-loop μ-loop
 rest-even-requires c κs = (c .before .before .pre, c .before .loop .inv .0)

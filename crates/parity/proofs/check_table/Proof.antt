@@ -19,7 +19,7 @@ loop-holds : tie.Need-loop-holds Inv-loop μ-loop
 loop-holds c = (omega arith, rows-none _ _ _)
 
 check-row-requires : tie.Need-check-row-requires Inv-loop μ-loop
-check-row-requires c κs = let p = c .before .before .pre in (p .0, p .1, p .2, p .3, omega arith)
+check-row-requires c κs = record { table = c .before .before .pre; row = omega arith }
 
 mul-at : tie.Need-mul-at Inv-loop μ-loop
 mul-at c = omega arith

@@ -2,7 +2,7 @@
 -- Assumes nothing.
 use borrow.Author.Needs.{needs}
 use native.Mathlib.Omega.{arith}
-use Rattle.parity.specs.Parity.{oddOfFour}
+use Rattle.parity.specs.Model.Parity.{oddOfFour}
 use Rattle.parity.proofs.odd_of_four.Statement.{statement}
 use Rattle.parity.proofs.odd_of_four.Tie as tie
 

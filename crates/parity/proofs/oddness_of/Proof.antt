@@ -4,7 +4,7 @@ use borrow.Author.Needs.{needs}
 use mathlib.Core.Path.{refl}
 use native.Mathlib.Omega.{arith}
 use Rattle.poly.specs.Poly.{_⊕_}
-use Rattle.parity.specs.Parity.{oddness}
+use Rattle.parity.specs.Model.Parity.{oddness}
 use Rattle.parity.proofs.oddness_of.Statement.{statement}
 use Rattle.parity.proofs.oddness_of.Tie as tie
 

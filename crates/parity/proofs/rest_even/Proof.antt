@@ -3,7 +3,7 @@
 use mathlib.Core.Path.{_≡_, refl, sym, _∙_}
 use Prim.Native.Nat.{_-_, _≤_}
 use native.Mathlib.Omega.{arith}
-use Rattle.parity.specs.Parity.{evenFrom}
+use Rattle.parity.specs.Model.Parity.{evenFrom}
 use Rattle.parity.proofs.Checks.{row-odd, row-even, rows-end}
 use Rattle.parity.proofs.rest_even.Statement.{statement}
 use Rattle.parity.proofs.rest_even.Tie as tie
@@ -23,8 +23,7 @@ oddness-of-requires c κs = omega arith
 returns : tie.Need-returns Inv-loop μ-loop
 returns c =
     let l = c .before .before .before .loop in
-    let a = c .before .before .before .before .args in
-    sym (row-odd (a .rows .now) (a .m) (a .low) (a .high) (l .i) (omega arith) (λ e. c .if1 .taken (c .before .oddness-of .ensures .0 ∙ e))) ∙ l .inv .1
+    sym (row-odd _ _ _ _ (l .i) (omega arith) (λ e. c .if1 .taken (c .before .oddness-of .ensures .0 ∙ e))) ∙ l .inv .1
 
 add-i : tie.Need-add-i Inv-loop μ-loop
 add-i c = omega arith
@@ -35,14 +34,10 @@ loop-less c = omega arith
 loop-again : tie.Need-loop-again Inv-loop μ-loop
 loop-again c =
     let l = c .before .before .before .loop in
-    let a = c .before .before .before .before .args in
-    (omega arith, sym (row-even (a .rows .now) (a .m) (a .low) (a .high) (l .i) (omega arith) (sym (c .before .oddness-of .ensures .0) ∙ c .if1 .left)) ∙ l .inv .1)
+    (omega arith, sym (row-even _ _ _ _ (l .i) (omega arith) (sym (c .before .oddness-of .ensures .0) ∙ c .if1 .left)) ∙ l .inv .1)
 
 returns-2 : tie.Need-returns-2 Inv-loop μ-loop
-returns-2 c =
-    let l = c .before .loop in
-    let a = c .before .before .args in
-    sym (rows-end (a .rows .now) (a .m) (a .low) (a .high) (l .i) (omega arith)) ∙ l .inv .1
+returns-2 c = let l = c .before .loop in sym (rows-end _ _ _ _ (l .i) (omega arith)) ∙ l .inv .1
 
 pub rest-even-spec : {M : Type 1} → statement M
 rest-even-spec =

@@ -10,19 +10,23 @@ shl-t5 : tie.Need-shl-t5
 shl-t5 c = search needs
 
 add-t6 : tie.Need-add-t6
-add-t6 c = let a = c .before .before .args in let p = c .before .before .pre in record { fits = low-fits (a .w .high) (a .w .low) (a .j) (a .b) (p .2) (omega arith) }
+add-t6 c = record { fits = low-fits (c .before .before .args .w .high) _ _ _ (c .before .before .pre .below) (omega arith) }
 
 returns : tie.Need-returns
-returns c = let a = c .before .before .args in let p = c .before .before .pre in low-set (a .w .high) (a .w .low) (a .j) (a .b) (p .2) (omega arith) (p .1)
+returns c = let asked = c .before .before .pre in low-set _ _ _ _ (asked .below) (omega arith) (asked .digit)
 
 shl-t8 : tie.Need-shl-t8
 shl-t8 c = search needs
 
 add-t9 : tie.Need-add-t9
-add-t9 c = let a = c .before .before .args in let p = c .before .before .pre in record { fits = high-fits (a .w .high) (a .w .low) (a .j) (a .b) (p .2) (omega arith) (p .0) }
+add-t9 c =
+    let s = c .before .before in
+    record { fits = high-fits _ (s .args .w .low) _ _ (s .pre .below) (omega arith) (s .pre .place) }
 
 returns-2 : tie.Need-returns-2
-returns-2 c = let a = c .before .before .args in let p = c .before .before .pre in high-set (a .w .high) (a .w .low) (a .j) (a .b) (p .2) (omega arith) (p .0) (p .1)
+returns-2 c =
+    let asked = c .before .before .pre in
+    high-set _ _ _ _ (asked .below) (omega arith) (asked .place) (asked .digit)
 
 pub with-bit-spec : {M : Type 1} → statement M
 with-bit-spec = tie.close (tie.spec shl-t5 add-t6 returns shl-t8 add-t9 returns-2)

@@ -14,7 +14,10 @@ enum-known-reading : tie.Need-enum-known-reading
 enum-known-reading c = search needs
 
 print-order-requires : tie.Need-print-order-requires
-print-order-requires c κs = (read-small _ _ (sym (c .before .before .reading .given .1) ∙ c .before .before .before .before .read-order .ensures), c .before .before .before .before .before .before .before .pre)
+print-order-requires c κs =
+    let told = c .before .before in
+    let read = told .before .before in
+    (read-small _ _ (sym (told .reading .given .1) ∙ read .read-order .ensures), read .before .before .before .pre)
 
 enum-known-reading-2 : tie.Need-enum-known-reading-2
 enum-known-reading-2 c = search needs
@@ -26,13 +29,19 @@ same-length : tie.Need-same-length
 same-length c = search needs
 
 returns : tie.Need-returns
-returns c = as-text (read-order-shown _ _ (sym (c .before .before .before .before .before .reading .given .1) ∙ c .before .before .before .before .before .before .before .read-order .ensures)) (c .before .before .print-order .ensures)
+returns c =
+    let told = c .before .before .before .before .before in
+    let read = told .before .before in
+    as-text (read-order-shown _ _ (sym (told .reading .given .1) ∙ read .read-order .ensures)) (c .before .before .print-order .ensures)
 
 same-length-2 : tie.Need-same-length-2
 same-length-2 c = search needs
 
 returns-2 : tie.Need-returns-2
-returns-2 c = as-text (read-refusal-shown _ _ (sym (c .before .before .before .before .before .reading2 .given .1) ∙ c .before .before .before .before .before .before .before .read-order .ensures)) (c .before .before .print-refusal .ensures)
+returns-2 c =
+    let told = c .before .before .before .before .before in
+    let read = told .before .before in
+    as-text (read-refusal-shown _ _ (sym (told .reading2 .given .1) ∙ read .read-order .ensures)) (c .before .before .print-refusal .ensures)
 
 pub print-spec : {M : Type 1} → statement M
 print-spec =

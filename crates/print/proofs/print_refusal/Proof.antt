@@ -15,7 +15,10 @@ same-length : tie.Need-same-length
 same-length c = search needs
 
 returns : tie.Need-returns
-returns c = refusal-shown _ _ _ _ (c .before .before .before .write-refusal .result) _ (c .before .before .before .before .before .before .pre) (c .before .before .before .write-refusal .ensures) (c .size-of .ensures)
+returns c =
+    let call = c .before .before .before in
+    let p = call .before .before .before .pre in
+    refusal-shown _ _ _ _ (call .write-refusal .result) _ p (call .write-refusal .ensures) (c .size-of .ensures)
 
 pub print-refusal-spec : {M : Type 1} → statement M
 print-refusal-spec =

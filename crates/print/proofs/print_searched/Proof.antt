@@ -32,7 +32,12 @@ same-length c = search needs
 
 returns : tie.Need-returns
 unfolding printedRow
-returns c = let p = c .before .before .before .before .before .before .before .before .before .before .before .pre in told _ _ _ _ _ _ _ _ (c .before .before .before .before .before .before .a .given .1) (row-shown _ _ _ _ _ _ _ _ (c .before .before .before .write-row .result) _ (p .0) (p .1) (p .2) (p .3) (c .before .before .before .write-row .ensures) (c .size-of .ensures))
+returns c =
+    let row = c .before .before .before in
+    let found = row .before .before .before in
+    let p = found .before .before .before .before .before .pre in
+    told _ _ _ _ _ _ _ _ (found .a .given .1)
+    (row-shown _ _ _ _ _ _ _ _ (row .write-row .result) _ p (row .write-row .ensures) (c .size-of .ensures))
 
 same-length-2 : tie.Need-same-length-2
 same-length-2 c = search needs

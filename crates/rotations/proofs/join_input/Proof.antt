@@ -8,13 +8,15 @@ use Rattle.rotations.proofs.join_input.Statement.{statement}
 use Rattle.rotations.proofs.join_input.Tie as tie
 
 returns : tie.Need-returns
-returns c = let a = c .before .args in let p = c .before .pre in joined-first (a .input .high) (a .input .low) (a .before .high) (a .before .low) (a .place) (c .if1 .taken) (p .1)
+returns c = joined-first _ _ _ _ _ (c .if1 .taken) (c .before .pre .below)
 
 shl-t5 : tie.Need-shl-t5
 shl-t5 c = search needs
 
 add-t6 : tie.Need-add-t6
-add-t6 c = let a = c .before .before .before .before .args in let p = c .before .before .before .before .pre in record { fits = low-fits (a .input .high) (a .input .low) (a .before .high) (a .before .low) (a .place) (omega arith) (p .1) }
+add-t6 c =
+    let start = c .before .before .before .before in
+    record { fits = low-fits (start .args .input .high) _ _ _ _ (omega arith) (start .pre .below) }
 
 shl-t7 : tie.Need-shl-t7
 shl-t7 c = search needs
@@ -26,19 +28,25 @@ shr-t9 : tie.Need-shr-t9
 shr-t9 c = search needs
 
 add-t10 : tie.Need-add-t10
-add-t10 c = let a = c .before .before .before .before .before .before .args in let p = c .before .before .before .before .before .before .pre in record { fits = up-high-fits (a .input .high) (a .input .low) (a .place) (omega arith) (p .2) }
+add-t10 c = record { fits = up-high-fits _ _ _ (omega arith) (c .before .before .before .before .before .before .pre .fits) }
 
 returns-2 : tie.Need-returns-2
-returns-2 c = let a = c .before .before .before .before .before .before .args in let p = c .before .before .before .before .before .before .pre in joined-low (a .input .high) (a .input .low) (a .before .high) (a .before .low) (a .place) (omega arith) (p .1) (p .2)
+returns-2 c =
+    let p = c .before .before .before .before .before .before .pre in
+    joined-low _ _ _ _ _ (omega arith) (p .below) (p .fits)
 
 shl-t12 : tie.Need-shl-t12
 shl-t12 c = search needs
 
 add-t13 : tie.Need-add-t13
-add-t13 c = let a = c .before .before .before .before .args in let p = c .before .before .before .before .pre in record { fits = high-fits (a .input .high) (a .input .low) (a .before .high) (a .before .low) (a .place) (omega arith) (p .0) (p .2) (p .1) }
+add-t13 c =
+    let p = c .before .before .before .before .pre in
+    record { fits = high-fits _ _ _ _ _ (omega arith) (p .near) (p .fits) (p .below) }
 
 returns-3 : tie.Need-returns-3
-returns-3 c = let a = c .before .before .before .before .args in let p = c .before .before .before .before .pre in joined-high (a .input .high) (a .input .low) (a .before .high) (a .before .low) (a .place) (omega arith) (p .0) (p .2)
+returns-3 c =
+    let p = c .before .before .before .before .pre in
+    joined-high _ _ _ _ _ (omega arith) (p .near) (p .fits)
 
 pub join-input-spec : {M : Type 1} → statement M
 join-input-spec =

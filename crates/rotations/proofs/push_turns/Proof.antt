@@ -1,22 +1,29 @@
 -- The invariant: the rotations left, appended from here, give the whole.
 -- Assumes nothing.
 use mathlib.Core.Path.{_≡_, refl, sym, _∙_}
-use Prim.Native.Nat.{_+_, _-_, _≤_, _<_}
+use mathlib.Core.List.{List}
+use Prim.Native.Nat.{ℕ, _+_, _-_, _≤_, _<_}
 use native.Mathlib.Omega.{arith}
 use lib.ListN.{length}
 use Rattle.poly.specs.Word.{number}
 use Rattle.code.specs.Trellis.{rotate}
 use Rattle.code.proofs.Rotation.{rotate-zero}
 use Rattle.paths.specs.Paths.{pathRoom}
-use Rattle.paths.specs.Chains.{turns}
-use Rattle.rotations.specs.Put.{puts}
+use Rattle.paths.specs.Model.Joining.{turns}
+use Rattle.rotations.specs.Model.Put.{puts}
 use Rattle.rotations.proofs.AllTurns.{is-zero, is-some, turnsFrom, turns-zero, turns-begin, turns-again, turns-end, turned-again, turned-lt, length-after, place-after}
 use Rattle.rotations.proofs.push_turns.Statement.{statement}
 use Rattle.rotations.proofs.push_turns.Tie as tie
 
+record Turning (table₀ : List ℕ) (at bits first c : ℕ) (table : List ℕ) (next u r : ℕ) : Type 0 where
+  within : r ≤ first
+  same-size : length table ≡ length table₀
+  near : next ≤ pathRoom (length table) + 1
+  turned : u ≡ rotate bits r c
+  left : puts (turnsFrom bits r (first - r) c) (table, next) ≡ puts (turns bits first c) (table₀, at)
+
 abbrev Inv-loop : tie.InvT-loop
-Inv-loop table₀ at bits first next₀ u₀ r₀ table next u r =
-    (r ≤ first) × (length table ≡ length table₀) × (next ≤ pathRoom (length table) + 1) × (number u ≡ rotate bits r (number u₀)) × (puts (turnsFrom bits r (first - r) (number u₀)) (table, next) ≡ puts (turns bits first (number u₀)) (table₀, at))
+Inv-loop table₀ at bits first next₀ u₀ r₀ table next u r = Turning table₀ at bits first (number u₀) table next (number u) r
 
 abbrev μ-loop : tie.MeasureT-loop
 μ-loop table₀ at bits first next₀ u₀ r₀ table next u r = first - r
@@ -25,16 +32,24 @@ is-below-requires : tie.Need-is-below-requires Inv-loop μ-loop
 is-below-requires c κs = tt
 
 returns : tie.Need-returns Inv-loop μ-loop
-returns c = let a = c .before .before .before .args in turns-zero (a .bits) (a .first) (number (a .w)) (a .table .now, a .at) (is-zero _ _ (c .before .is-below .ensures) (c .if1 .taken))
+returns c =
+    let a = c .before .before .before .args in
+    turns-zero (a .bits) (a .first) (number (a .w)) (a .table .now, a .at) (is-zero _ _ (c .before .is-below .ensures) (c .if1 .taken))
 
 loop-holds : tie.Need-loop-holds Inv-loop μ-loop
-loop-holds c = let p = c .before .before .before .pre in (omega arith, refl, p .0, sym (rotate-zero _ _ (p .3)), turns-begin _ _ _ _)
+loop-holds c =
+    let p = c .before .before .before .pre in
+    let same = sym (rotate-zero _ _ (p .word .fits)) in
+    record { within = omega arith; same-size = refl; near = p .near; turned = same; left = turns-begin _ _ _ _ }
 
 push-requires : tie.Need-push-requires Inv-loop μ-loop
-push-requires c κs = c .before .before .loop .inv .2
+push-requires c κs = c .before .before .loop .inv .near
 
 turn-back-requires : tie.Need-turn-back-requires Inv-loop μ-loop
-turn-back-requires c κs = let p = c .before .before .before .before .before .before .before .before .before .pre in let l = c .before .before .before .before .before .loop in (p .1, p .2, turned-lt _ (l .r) _ _ (l .inv .3))
+turn-back-requires c κs =
+    let top = c .before .before .before .before .before in
+    let word = top .before .before .before .before .pre .word in
+    record { some-bits = word .some-bits; at-most-128 = word .at-most-128; fits = turned-lt _ (top .loop .r) _ _ (top .loop .inv .turned) }
 
 add-r : tie.Need-add-r Inv-loop μ-loop
 add-r c = omega arith
@@ -44,23 +59,26 @@ loop-less c = omega arith
 
 loop-again : tie.Need-loop-again Inv-loop μ-loop
 loop-again c =
-    let a = c .before .before .before .before .before .before .before .before .before .before .args in
-    let p = c .before .before .before .before .before .before .before .before .before .before .pre in
-    let l = c .before .before .before .before .before .before .loop in
+    let top = c .before .before .before .before .before .before in
+    let left = top .before in
+    let start = left .before .before .before in
+    let word = start .pre .word in
+    let l = top .loop in
     let e = c .before .before .before .push .ensures in
-    let some : 0 < number (a .w) = is-some _ _ (c .before .before .before .before .before .before .before .before .is-below .ensures) (c .before .before .before .before .before .before .before .if1 .left) in (
-      omega arith,
-      length-after _ _ _ _ _ e ∙ l .inv .1,
-      place-after _ _ _ _ _ e,
-      turned-again _ (l .r) _ _ _ (p .1) (l .inv .3) (c .turn-back .ensures),
-      turns-again _ _ (l .r) _ _ _ _ _ (p .1) (p .3) some (omega arith) (l .inv .3) e (l .inv .4),
-    )
+    let some : 0 < number (start .args .w) = is-some _ _ (left .before .is-below .ensures) (left .if1 .left) in
+    record {
+      within = omega arith;
+      same-size = length-after _ _ _ _ _ e ∙ l .inv .same-size;
+      near = place-after _ _ _ _ _ e;
+      turned = turned-again _ (l .r) _ _ _ (word .some-bits) (l .inv .turned) (c .turn-back .ensures);
+      left = turns-again _ _ (l .r) _ _ _ _ _ (word .some-bits) (word .fits) some (omega arith) (l .inv .turned) e (l .inv .left);
+    }
 
 same-length : tie.Need-same-length Inv-loop μ-loop
-same-length c = c .before .loop .inv .1
+same-length c = c .before .loop .inv .same-size
 
 returns-2 : tie.Need-returns-2 Inv-loop μ-loop
-returns-2 c = let l = c .before .loop in turns-end _ _ (l .r) _ _ _ (omega arith) (l .inv .4)
+returns-2 c = let l = c .before .loop in turns-end _ _ (l .r) _ _ _ (omega arith) (l .inv .left)
 
 pub push-turns-spec : {M : Type 1} → statement M
 push-turns-spec =

@@ -16,10 +16,14 @@ shl-t10 : tie.Need-shl-t10
 shl-t10 c = search needs
 
 add-t11 : tie.Need-add-t11
-add-t11 c = let a = c .before .before .before .before .before .args in let p = c .before .before .before .before .before .pre in record { fits = short-fits (a .bits) (a .w .high) (a .w .low) (p .0) (p .2) (omega arith) }
+add-t11 c =
+    let p = c .before .before .before .before .before .pre in
+    record { fits = short-fits _ _ _ (p .some-bits) (p .fits) (omega arith) }
 
 returns : tie.Need-returns
-returns c = let a = c .before .before .before .before .before .args in let p = c .before .before .before .before .before .pre in short-turn (a .bits) (a .w .high) (a .w .low) (p .0) (p .2) (omega arith)
+returns c =
+    let p = c .before .before .before .before .before .pre in
+    short-turn _ _ _ (p .some-bits) (p .fits) (omega arith)
 
 sub-t6 : tie.Need-sub-t6
 sub-t6 c = search needs
@@ -28,10 +32,14 @@ shl-t7 : tie.Need-shl-t7
 shl-t7 c = search needs
 
 add-t12 : tie.Need-add-t12
-add-t12 c = let a = c .before .before .before .before .before .args in let p = c .before .before .before .before .before .pre in record { fits = long-fits (a .bits) (a .w .high) (a .w .low) (p .2) (omega arith) (p .1) }
+add-t12 c =
+    let p = c .before .before .before .before .before .pre in
+    record { fits = long-fits _ _ _ (p .fits) (omega arith) (p .at-most-128) }
 
 returns-2 : tie.Need-returns-2
-returns-2 c = let a = c .before .before .before .before .before .args in let p = c .before .before .before .before .before .pre in long-turn (a .bits) (a .w .high) (a .w .low) (p .2) (omega arith) (p .1)
+returns-2 c =
+    let p = c .before .before .before .before .before .pre in
+    long-turn _ _ _ (p .fits) (omega arith) (p .at-most-128)
 
 pub turn-back-spec : {M : Type 1} → statement M
 turn-back-spec =

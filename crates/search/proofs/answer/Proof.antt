@@ -1,13 +1,12 @@
 -- One is left, or several.
 -- Assumes nothing.
-use borrow.Author.Needs.{needs}
 use mathlib.Core.Path.{_≡_, sym, ap, _∙_}
 use mathlib.Core.Bool.{Bool, cond}
 use borrow.Author.Tests.{eq-eqb, ne-eqb}
 use Rattle.listing.specs.declared.Listed.{Listed}
 use Rattle.choice.specs.declared.Outcome.{Outcome}
 use Rattle.search.specs.declared.Searched.the-variants as S
-use Rattle.search.specs.Steps.{foundOf, answerOf}
+use Rattle.search.specs.Model.Steps.{foundOf, answerOf}
 use Rattle.search.proofs.answer.Statement.{statement}
 use Rattle.search.proofs.answer.Tie as tie
 
@@ -22,17 +21,11 @@ one-left a o e = sym (ap (λ (b : Bool). cond b (foundOf a (o .polynomial)) (S.T
 returns : tie.Need-returns
 returns c = several _ _ (c .if1 .taken)
 
-enum-known-a : tie.Need-enum-known-a
-enum-known-a c = search needs
-
-enum-known-a-2 : tie.Need-enum-known-a-2
-enum-known-a-2 c = search needs
+found-requires : tie.Need-found-requires
+found-requires c κs = tt
 
 returns-2 : tie.Need-returns-2
-returns-2 c = sym (ap (λ (x : Listed). foundOf x (c .before .before .before .before .before .args .o .polynomial)) (c .before .a .given .1)) ∙ one-left _ _ (c .before .before .before .if1 .left)
-
-returns-3 : tie.Need-returns-3
-returns-3 c = sym (ap (λ (x : Listed). foundOf x (c .before .before .before .before .before .args .o .polynomial)) (c .before .a2 .given .1)) ∙ one-left _ _ (c .before .before .before .if1 .left)
+returns-2 c = c .found .ensures ∙ one-left _ _ (c .before .if1 .left)
 
 pub answer-spec : {M : Type 1} → statement M
-answer-spec = tie.close (tie.spec returns enum-known-a enum-known-a-2 returns-2 returns-3)
+answer-spec = tie.close (tie.spec returns found-requires returns-2)

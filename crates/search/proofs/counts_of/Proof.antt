@@ -7,7 +7,7 @@ use Rattle.search.proofs.counts_of.Statement.{statement}
 use Rattle.search.proofs.counts_of.Tie as tie
 
 count-from-requires : tie.Need-count-from-requires
-count-from-requires c κs = let p = c .before .before .before .before .pre in (p .0, p .1, zero-le, p .2, sum-none _)
+count-from-requires c κs = record { each = c .before .before .before .before .pre; begun = zero-le; placed = sum-none _ }
 
 same-length : tie.Need-same-length
 same-length c = search needs

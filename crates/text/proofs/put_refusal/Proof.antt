@@ -21,7 +21,10 @@ same-length : tie.Need-same-length
 same-length c = search needs
 
 returns : tie.Need-returns
-returns c = let s = c .before .before .before .before .before .before .before .before in let p = c .before .before .put-line .ensures in let within = put-most 4096 p (omega (arith, p .short)) in put-as (sym (refusal-fifteen (s .args .number) (s .args .left) (c .before .before .before .before .before .before .if1 .taken))) within
+returns c =
+    let p = c .before .before .put-line .ensures in
+    let tested = c .before .before .before .before .before .before in
+    put-as (sym (refusal-fifteen _ _ (tested .if1 .taken))) (put-most 4096 p (omega (arith, p .short)))
 
 slice-aggregate-put-line-3 : tie.Need-slice-aggregate-put-line-3
 slice-aggregate-put-line-3 c = search needs
@@ -36,7 +39,10 @@ same-length-2 : tie.Need-same-length-2
 same-length-2 c = search needs
 
 returns-2 : tie.Need-returns-2
-returns-2 c = let s = c .before .before .before .before .before .before .before .before in let p = c .before .before .put-line2 .ensures in let within = put-most 4096 p (omega (arith, p .short)) in put-as (sym (refusal-other (s .args .number) (s .args .left) (c .before .before .before .before .before .before .if1 .left))) within
+returns-2 c =
+    let p = c .before .before .put-line2 .ensures in
+    let tested = c .before .before .before .before .before .before in
+    put-as (sym (refusal-other _ _ (tested .if1 .left))) (put-most 4096 p (omega (arith, p .short)))
 
 pub put-refusal-spec : {M : Type 1} → statement M
 put-refusal-spec =

@@ -3,9 +3,23 @@
 use native.Mathlib.Omega.{arith}
 use Rattle.text.specs.Text.{wEVENTS, wPATHS, rowText}
 use Rattle.text.proofs.Puts.{put-most, joined}
+use Rattle.order.specs.Answers.{orderIn}
 use borrow.Author.Needs.{needs}
 use Rattle.text.proofs.put_row.Statement.{statement}
 use Rattle.text.proofs.put_row.Tie as tie
+
+-- ---- the pieces before the third, and where the function begins
+
+abbrev events : tie.After-put-line2 → tie.After-put-line
+events c = c .before .before .before .before .before .before
+
+abbrev order : tie.After-put-line2 → tie.After-put-order
+order c = events c .before .before .before .before .before .before
+
+abbrev start : tie.After-put-line2 → tie.Start
+start c = order c .before .before .before .before .before
+
+-- ---- the needs
 
 put-order-requires : tie.Need-put-order-requires
 put-order-requires c κs = omega arith
@@ -29,7 +43,8 @@ put-line-requires-2 : tie.Need-put-line-requires-2
 put-line-requires-2 c κs = omega arith
 
 put-counts-requires : tie.Need-put-counts-requires
-put-counts-requires c κs = omega arith
+put-counts-requires c κs =
+    record { counts = start (c .before .before .before) .pre .counts; room = omega arith }
 
 put-polynomial-requires : tie.Need-put-polynomial-requires
 put-polynomial-requires c κs = omega arith
@@ -38,8 +53,15 @@ same-length : tie.Need-same-length
 same-length c = search needs
 
 returns : tie.Need-returns
-unfolding wEVENTS wPATHS rowText
-returns c = let p = c .before .before .before .before .before .before .before .before .before .before .before .before .before .before .before .before .before .before .before .before .before .before .put-order .ensures in let q = c .before .before .before .before .before .before .before .before .before .before .before .before .before .before .before .before .put-line .ensures in let r = c .before .before .before .before .before .before .before .before .before .before .put-line2 .ensures in let s = c .before .before .before .before .before .before .put-counts .ensures in let t = c .before .before .put-polynomial .ensures in let all = joined p (joined q (joined r (joined s t))) in put-most 4096 all (omega (arith, all .short))
+unfolding wEVENTS wPATHS rowText orderIn
+returns c =
+    let polynomial = c .before .before in
+    let weights = polynomial .before .before .before .before in
+    let paths = weights .before .before .before .before in
+    let lines = joined (weights .put-counts .ensures) (polynomial .put-polynomial .ensures) in
+    let all = joined (order paths .put-order .ensures) (joined (events paths .put-line .ensures) (joined (paths .put-line2 .ensures) lines)) in
+    let counts = start paths .pre .counts in
+    put-most 4096 all (omega (arith, all .short))
 
 pub put-row-spec : {M : Type 1} → statement M
 put-row-spec =

@@ -11,8 +11,8 @@ use Rattle.text.proofs.write_refusal.Tie as tie
 returns : tie.Need-returns
 returns c = let a = c .before .before .args in refusal-no-room (a .number) (a .left) (a .buffer .now) (c .if1 .taken)
 
-clear-requires : tie.Need-clear-requires
-clear-requires c κs = search needs
+clear-bytes-requires : tie.Need-clear-bytes-requires
+clear-bytes-requires c κs = search needs
 
 put-refusal-requires : tie.Need-put-refusal-requires
 put-refusal-requires c κs = omega arith
@@ -22,8 +22,14 @@ same-length c = search needs
 
 returns-2 : tie.Need-returns-2
 unfolding refusalCall
-returns-2 c = let a = c .before .before .before .before .before .before .before .before .before .before .args in let room = c .before .before .before .before .before .before .before .before .if1 .left in written-as _ (refusalText (a .number) (a .left)) (a .buffer .now) (refusal-room (a .buffer .now) room) room (c .before .before .before .before .before .before .clear .ensures) (c .before .before .put-refusal .ensures)
+returns-2 c =
+    let clear = c .before .before .before .before .before .before in
+    let a = clear .before .before .before .before .args in
+    let room = clear .before .before .if1 .left in
+    let text = refusalText (a .number) (a .left) in
+    written-as _ text (a .buffer .now) (refusal-room (a .buffer .now) room) room (clear .clear-bytes .ensures)
+    (c .before .before .put-refusal .ensures)
 
 pub write-refusal-spec : {M : Type 1} → statement M
 write-refusal-spec =
-    tie.close (tie.spec returns clear-requires put-refusal-requires same-length returns-2)
+    tie.close (tie.spec returns clear-bytes-requires put-refusal-requires same-length returns-2)

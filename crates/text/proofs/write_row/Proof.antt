@@ -2,34 +2,61 @@
 -- Assumes nothing.
 use native.Mathlib.Omega.{arith}
 use mathlib.Core.Path.{sym, _∙_}
+use lib.ListN.{length}
 use Rattle.text.specs.Text.{rowText}
-use Rattle.text.specs.Calls.{orderIn, rowCall}
-use Rattle.text.proofs.Calls.{refused-as, written-as, row-accepted}
+use Rattle.order.specs.Answers.{orderIn}
+use Rattle.order.proofs.FirstNo.{leaves-refused}
+use Rattle.text.specs.Calls.{rowCall}
+use Rattle.text.specs.Model.Steps.{RowAccepted}
+use Rattle.text.proofs.Calls.{written-as, row-accepted, row-asked}
 use borrow.Author.Needs.{needs}
 use Rattle.text.proofs.write_row.Statement.{statement}
 use Rattle.text.proofs.write_row.Tie as tie
+
+-- past the questions
+abbrev start : tie.Else1 → tie.Start
+start c = c .before .before .before .before .before
+
+abbrev Accepted : tie.Start → Type 0
+Accepted s =
+    let a = s .args in
+    RowAccepted (a .o .n) (a .o .d) (length (a .plain .now)) (length (a .undetected .now)) (length (a .buffer .now))
+
+accepted : (c : tie.Else1) → Accepted (start c)
+accepted c = row-accepted _ _ _ _ _ _ (c .before .ask-row .ensures) (c .if1 .left)
 
 ask-row-requires : tie.Need-ask-row-requires
 ask-row-requires c κs = search needs
 
 returns : tie.Need-returns
-unfolding rowCall
-returns c = let a = c .before .before .before .before .before .args in refused-as (c .before .ask-row .result) _ (rowText (orderIn (a .o)) (a .events) (a .paths) (a .polynomial) (a .plain .now) (a .undetected .now)) (a .buffer .now) (c .before .ask-row .ensures) (c .if1 .taken)
+unfolding rowCall orderIn
+returns c =
+    let a = c .before .before .before .before .before .args in
+    let ask = c .before .ask-row in
+    leaves-refused (a .buffer .now) _ (ask .result) _ (row-asked (a .o) _ _ _ _ (ask .ensures)) (c .if1 .taken)
 
-clear-requires : tie.Need-clear-requires
-clear-requires c κs = search needs
+clear-bytes-requires : tie.Need-clear-bytes-requires
+clear-bytes-requires c κs = search needs
 
 put-row-requires : tie.Need-put-row-requires
-put-row-requires c κs = let yes = row-accepted _ _ _ _ _ (c .before .before .before .before .before .before .ask-row .ensures) (c .before .before .before .before .before .if1 .left) in omega arith
+put-row-requires c κs =
+    let yes = accepted (c .before .before .before .before .before) in
+    record { at-most-4 = yes .at-most-4; counts = yes .counts; bytes = omega arith }
 
 same-length : tie.Need-same-length
 same-length c = search needs
 
 returns-2 : tie.Need-returns-2
-unfolding rowCall
-returns-2 c = let a = c .before .before .before .before .before .before .before .before .before .before .before .before .before .args in let yes = row-accepted _ _ _ _ _ (c .before .before .before .before .before .before .before .before .before .ask-row .ensures) (c .before .before .before .before .before .before .before .before .if1 .left) in written-as _ (rowText (orderIn (a .o)) (a .events) (a .paths) (a .polynomial) (a .plain .now) (a .undetected .now)) (a .buffer .now) (sym (c .before .before .before .before .before .before .before .before .if1 .left) ∙ c .before .before .before .before .before .before .before .before .before .ask-row .ensures) (yes .bytes) (c .before .before .before .before .before .before .clear .ensures) (c .before .before .put-row .ensures)
+unfolding rowCall orderIn
+returns-2 c =
+    let clear = c .before .before .before .before .before .before in
+    let asked = clear .before .before in
+    let a = start asked .args in
+    let text = rowText (orderIn (a .o)) (a .events) (a .paths) (a .polynomial) (a .plain .now) (a .undetected .now) in
+    let none = sym (asked .if1 .left) ∙ row-asked (a .o) _ _ _ _ (asked .before .ask-row .ensures) in
+    written-as _ text (a .buffer .now) none (accepted asked .bytes) (clear .clear-bytes .ensures) (c .before .before .put-row .ensures)
 
 pub write-row-spec : {M : Type 1} → statement M
 write-row-spec =
     tie.close
-    (tie.spec ask-row-requires returns clear-requires put-row-requires same-length returns-2)
+    (tie.spec ask-row-requires returns clear-bytes-requires put-row-requires same-length returns-2)

@@ -3,30 +3,52 @@
 use borrow.Author.Needs.{needs}
 use mathlib.Core.Path.{_≡_, ap, _∙_}
 use mathlib.Core.List.{List}
-use Prim.Native.Nat.{ℕ, _-_, _≤_}
+use Prim.Native.Nat.{ℕ, _+_, _-_, _≤_, _<_}
 use native.Mathlib.Omega.{arith}
-use lib.ListN.{length, set}
+use lib.ListN.{length, getD, set}
 use Rattle.paths.specs.Part.{pathsBefore}
-use Rattle.undetected.specs.Steps.{countedFrom}
+use Rattle.undetected.specs.Model.Steps.{countedFrom}
 use Rattle.undetected.proofs.Counted.{before-next, before-end, counted-weight, counted-none, length-counted, counted-next}
 use Rattle.undetected.proofs.count_from.Statement.{statement}
 use Rattle.undetected.proofs.count_from.Tie as tie
 
+record Counted (table plain undetected₀ : List ℕ) (m p first d : ℕ) (undetected : List ℕ) (at w : ℕ) : Type 0 where
+  begun : first ≤ w
+  within : w ≤ d
+  placed : at ≡ pathsBefore plain w
+  so-far : undetected ≡ countedFrom m p table plain first w undetected₀
+
 abbrev Inv-loop : tie.InvT-loop
 Inv-loop table plain undetected₀ bits m p first d start rows at₀ w₀ undetected at w =
-    (first ≤ w) × (w ≤ d) × (at ≡ pathsBefore plain w) × (undetected ≡ countedFrom m p table plain first w undetected₀)
+    Counted table plain undetected₀ m p first d undetected at w
 
 abbrev μ-loop : tie.MeasureT-loop
 μ-loop table plain undetected₀ bits m p first d start rows at₀ w₀ undetected at w = d - w
+
+abbrev At : Type 0
+At = tie.At-loop Inv-loop μ-loop
+
+abbrev start : At → tie.Start Inv-loop μ-loop
+start l = l .before .before .before .before .before
+
+-- the list keeps its length
+long-at : (l : At) → length (l .loop .undetected) ≡ length (start l .args .undetected .now)
+long-at l =
+    let i = l .loop .inv in
+    ap length (i .so-far) ∙ length-counted _ _ _ _ _ (l .loop .w) _ (i .begun) (omega (arith, i .within, start l .pre .each .counts))
+
+-- the words of weight w end where those of all weights end, or before
+ends-at : (l : At) → l .loop .w < start l .args .d
+    → l .loop .at + getD (start l .args .plain .now) (l .loop .w) 0 ≤ pathsBefore (start l .args .plain .now) (start l .args .d)
+ends-at l h = before-end _ (l .loop .w) _ (l .loop .at) h (l .loop .inv .placed)
 
 check-table-requires : tie.Need-check-table-requires Inv-loop μ-loop
 check-table-requires c κs = search needs
 
 loop-holds : tie.Need-loop-holds Inv-loop μ-loop
 loop-holds c =
-    let s = c .before .before .before .before in
-    let a = s .args in
-    (omega arith, s .pre .2, s .pre .4, counted-none (a .m) (a .p) (a .table .now) (a .plain .now) (a .first) (a .undetected .now))
+    let asked = c .before .before .before .before .pre in
+    record { begun = omega arith; within = asked .begun; placed = asked .placed; so-far = counted-none _ _ _ _ _ _ }
 
 mul-all : tie.Need-mul-all Inv-loop μ-loop
 mul-all c = search needs
@@ -36,27 +58,26 @@ shared-slice-read-all c = search needs
 
 add-next : tie.Need-add-next Inv-loop μ-loop
 add-next c =
-    let l = c .before .before .loop in
-    let s = c .before .before .before .before .before .before .before in
-    omega (arith, s .pre .0 .inside, before-end (s .args .plain .now) (l .w) (s .args .d) (l .at) (c .before .loop-test .taken) (l .inv .2))
+    let l = c .before .before in
+    omega (arith, start l .pre .each .readable .inside, ends-at l (c .before .loop-test .taken))
 
 count-up-to-requires : tie.Need-count-up-to-requires Inv-loop μ-loop
 count-up-to-requires c κs =
-    let l = c .before .before .before .loop in
-    let s = c .before .before .before .before .before .before .before .before in
-    let e = before-end (s .args .plain .now) (l .w) (s .args .d) (l .at) (c .before .before .loop-test .taken) (l .inv .2) in
-    (omega arith, omega (arith, s .pre .0 .inside), s .pre .1 .1)
+    let l = c .before .before .before in
+    let asked = start l .pre .each in
+    record {
+      ordered = omega arith;
+      inside = omega (arith, asked .readable .inside, ends-at l (c .before .before .loop-test .taken));
+      at-most-12 = asked .divisor .modulus .at-most-12;
+    }
 
 mul-undetected : tie.Need-mul-undetected Inv-loop μ-loop
 mul-undetected c = search needs
 
 slice-write-undetected : tie.Need-slice-write-undetected Inv-loop μ-loop
 slice-write-undetected c =
-    let l = c .before .before .before .before .loop in
-    let s = c .before .before .before .before .before .before .before .before .before in
-    let a = s .args in
-    let n = length-counted (a .m) (a .p) (a .table .now) (a .plain .now) (a .first) (l .w) (a .undetected .now) (l .inv .0) (omega arith) in
-    omega (arith, s .pre .3, ap length (l .inv .3))
+    let l = c .before .before .before .before in
+    omega (arith, start l .pre .each .counts, long-at l)
 
 add-w : tie.Need-add-w Inv-loop μ-loop
 add-w c = search needs
@@ -66,33 +87,31 @@ loop-less c = search needs
 
 loop-again : tie.Need-loop-again Inv-loop μ-loop
 loop-again c =
-    let l = c .before .before .before .before .loop in
-    let s = c .before .before .before .before .before .before .before .before .before in
-    let a = s .args in
+    let l = c .before .before .before .before in
+    let i = l .loop .inv in
+    let asked = start l .pre .each in
+    let w = l .loop .w in
     let r = c .count-up-to .result in
-    let one = counted-weight (a .bits) (a .d) (a .m) (a .p) (a .table .now) (a .plain .now) (s .pre .0) (s .pre .1) _ (l .w) (l .at) r
-    (c .before .before .before .before .before .check-table .ensures) (l .inv .2) (c .count-up-to .ensures) in (
-      omega arith,
-      omega arith,
-      omega (arith, before-next (a .plain .now) (l .w)),
-      ap (λ (u : List ℕ). set u (l .w) r) (l .inv .3)
-          ∙ counted-next (a .m) (a .p) (a .table .now) (a .plain .now) (a .first) (l .w) (a .undetected .now) (l .inv .0) r (omega (arith, s .pre .3)) one,
-    )
+    let one =
+    counted-weight _ _ _ _ _ _ (asked .readable) (asked .divisor) _ w _ r (l .before .check-table .ensures) (i .placed)
+    (c .count-up-to .ensures) in
+    record {
+      begun = omega arith;
+      within = omega arith;
+      placed = omega (arith, before-next (start l .args .plain .now) w);
+      so-far =
+          ap (λ (u : List ℕ). set u w r) (i .so-far)
+          ∙ counted-next _ _ _ _ _ w _ (i .begun) r (omega (arith, asked .counts, c .before .before .before .loop-test .taken)) one;
+    }
 
 same-length : tie.Need-same-length Inv-loop μ-loop
-same-length c =
-    let l = c .before .loop in
-    let s = c .before .before .before .before .before .before in
-    let a = s .args in
-    ap length (l .inv .3)
-    ∙ length-counted (a .m) (a .p) (a .table .now) (a .plain .now) (a .first) (l .w) (a .undetected .now) (l .inv .0) (omega (arith, s .pre .3))
+same-length c = long-at (c .before)
 
 returns : tie.Need-returns Inv-loop μ-loop
 returns c =
-    let l = c .before .loop in
-    let a = c .before .before .before .before .before .before .args in
-    let all : l .w ≡ a .d = omega arith in
-    l .inv .3 ∙ ap (λ (w : ℕ). countedFrom (a .m) (a .p) (a .table .now) (a .plain .now) (a .first) w (a .undetected .now)) all
+    let l = c .before in
+    let all : l .loop .w ≡ start l .args .d = omega arith in
+    rw all at (l .loop .inv .so-far)
 
 pub count-from-spec : {M : Type 1} → statement M
 count-from-spec =

@@ -3,23 +3,28 @@
 use borrow.Author.Needs.{needs}
 use mathlib.Core.Path.{_≡_, sym, _∙_}
 use mathlib.Core.Logic.{⊎-elim}
-use Prim.Native.Nat.{_+_, _-_, _≤_}
+use mathlib.Core.List.{List}
+use Prim.Native.Nat.{ℕ, _-_, _≤_}
 use native.Mathlib.Omega.{arith}
-use Rattle.undetected.specs.Steps.{evenBetween}
+use Rattle.undetected.specs.Model.Steps.{evenBetween}
 use Rattle.undetected.proofs.Counting.{even-none, even-passes, even-fails, even-le, even-past, even-all}
 use Rattle.undetected.proofs.count_up_to.Statement.{statement}
 use Rattle.undetected.proofs.count_up_to.Tie as tie
 
+record Found (table : List ℕ) (from to : ℕ) (rows : List ℕ) (m limit found k : ℕ) : Type 0 where
+  begun : from ≤ k
+  within : k ≤ to
+  so-far : found ≡ evenBetween rows m table from k
+  few : found ≤ limit
+
 abbrev Inv-loop : tie.InvT-loop
-Inv-loop table from to rows m limit found₀ k₀ found k = (from ≤ k) × (k ≤ to) × (found ≡ evenBetween rows m table from k) × (found ≤ limit)
+Inv-loop table from to rows m limit found₀ k₀ found k = Found table from to rows m limit found k
 
 abbrev μ-loop : tie.MeasureT-loop
 μ-loop table from to rows m limit found₀ k₀ found k = to - k
 
 loop-holds : tie.Need-loop-holds Inv-loop μ-loop
-loop-holds c =
-    let a = c .before .args in
-    (omega arith, omega arith, even-none (a .rows .now) (a .m) (a .table .now) (a .from), omega arith)
+loop-holds c = record { begun = omega arith; within = omega arith; so-far = even-none _ _ _ _; few = omega arith }
 
 mul-at : tie.Need-mul-at Inv-loop μ-loop
 mul-at c = search needs
@@ -44,15 +49,15 @@ all-even-requires c κs = search needs
 
 add-found : tie.Need-add-found Inv-loop μ-loop
 add-found c =
-    let l = c .before .before .before .before .before .loop in
-    let a = c .before .before .before .before .before .before .before .args in
-    omega (arith, even-le (a .rows .now) (a .m) (a .table .now) (a .from) (l .k))
+    let l = c .before .before .before .before .before in
+    let a = l .before .before .args in
+    omega (arith, even-le (a .rows .now) (a .m) (a .table .now) (a .from) (l .loop .k))
 
 returns : tie.Need-returns Inv-loop μ-loop
 returns c =
-    let l = c .before .before .before .before .before .before .loop in
-    let a = c .before .before .before .before .before .before .before .before .args in
-    even-past (a .rows .now) (a .m) (a .table .now) (a .from) (l .k) (a .to) (l .found) (a .limit) (l .inv .0) (omega arith) (l .inv .2) (l .inv .3)
+    let l = c .before .before .before .before .before .before in
+    let i = l .loop .inv in
+    even-past _ _ _ _ (l .loop .k) _ _ (l .before .before .args .limit) (i .begun) (omega arith) (i .so-far) (i .few)
     (sym (c .before .if1 .taken) ∙ c .before .before .all-even .ensures) (omega arith)
 
 add-k : tie.Need-add-k Inv-loop μ-loop
@@ -63,22 +68,21 @@ loop-less c = search needs
 
 loop-again : tie.Need-loop-again Inv-loop μ-loop
 loop-again c =
-    let l = c .before .before .before .before .before .loop in
-    let a = c .before .before .before .before .before .before .before .args in
-    let one : c .if1 .found ≡ evenBetween (a .rows .now) (a .m) (a .table .now) (a .from) (l .k + 1) =
-    ⊎-elim
-    (λ t. t .2 ∙ even-passes (a .rows .now) (a .m) (a .table .now) (a .from) (l .k) (l .found) (l .inv .0) (l .inv .2)
-    (sym (t .0 .taken) ∙ c .before .all-even .ensures))
-    (λ e. e .1 ∙ even-fails (a .rows .now) (a .m) (a .table .now) (a .from) (l .k) (l .found) (l .inv .0) (l .inv .2)
-    (sym (e .0 .left) ∙ c .before .all-even .ensures))
-    (c .if1 .came) in
-    (omega arith, omega arith, one, ⊎-elim (λ t. omega arith) (λ e. omega arith) (c .if1 .came))
+    let i = c .before .before .before .before .before .loop .inv in
+    let tested = c .before .all-even .ensures in
+    record {
+      begun = omega arith;
+      within = omega arith;
+      so-far =
+          ⊎-elim (λ t. t .2 ∙ even-passes _ _ _ _ _ _ (i .begun) (i .so-far) (sym (t .0 .taken) ∙ tested))
+          (λ e. e .1 ∙ even-fails _ _ _ _ _ _ (i .begun) (i .so-far) (sym (e .0 .left) ∙ tested)) (c .if1 .came);
+      few = ⊎-elim (λ t. omega arith) (λ e. omega arith) (c .if1 .came);
+    }
 
 returns-2 : tie.Need-returns-2 Inv-loop μ-loop
 returns-2 c =
-    let l = c .before .loop in
-    let a = c .before .before .before .args in
-    even-all (a .rows .now) (a .m) (a .table .now) (a .from) (l .k) (a .to) (l .found) (a .limit) (omega arith) (l .inv .2) (l .inv .3)
+    let l = c .before in
+    even-all _ _ _ _ (l .loop .k) (l .before .before .args .to) _ _ (omega arith) (l .loop .inv .so-far) (l .loop .inv .few)
 
 pub count-up-to-spec : {M : Type 1} → statement M
 count-up-to-spec =

@@ -4,6 +4,7 @@ use crate::random::Random;
 use crate::tally::Tally;
 use crate::{number, size, word_answer};
 use dohvrin::calls::{self, Answer};
+use dohvrin::AnyOrder;
 use dso_ref::link::{self, Code};
 
 /// The bytes of an output before a call, and those around it.
@@ -11,38 +12,56 @@ const FILL: u8 = 0xA5;
 const GUARD: u8 = 0x3C;
 const GUARDS: usize = 64;
 
-/// What a call takes of a code, and a word: the first `count` generators; the
-/// others stand behind them in memory and must not matter.
+/// What a call takes of a code, and a word: the first n generators; the others
+/// stand behind them in the order and must not matter. No more do m and d, where
+/// a call does not ask about them.
 #[derive(Clone, Copy, Debug)]
 pub struct Input {
-    pub generators: [u64; 8],
-    pub count: usize,
+    pub generators: [u64; 4],
+    pub n: u64,
     pub v: u64,
     pub bits: u64,
+    pub unasked: Unasked,
     pub word: u128,
 }
 
+/// m and d for a call that asks for one of them or for none.
+#[derive(Clone, Copy, Debug)]
+pub struct Unasked {
+    pub m: u64,
+    pub d: u64,
+}
+
 impl Input {
-    /// A right code of these generators, and no word.
+    /// A right code of these generators, no check degree, no threshold, no word.
     pub fn of(given: &[u64], v: u64, bits: u64) -> Input {
-        let mut generators = [0; 8];
-        generators[..given.len()].copy_from_slice(given);
+        let AnyOrder { n, generators, .. } = AnyOrder::new(given, v, bits, 0, 0);
         Input {
             generators,
-            count: given.len(),
+            n,
             v,
             bits,
+            unasked: Unasked { m: 0, d: 0 },
             word: 0,
         }
     }
 
-    /// The code as the library takes it.
-    pub fn given(&self) -> dohvrin::Code<'_> {
-        dohvrin::Code {
-            generators: &self.generators[..self.count],
+    /// The order as the library takes it.
+    pub fn given(&self) -> AnyOrder {
+        let Unasked { m, d } = self.unasked;
+        AnyOrder {
+            n: self.n,
             v: self.v,
             bits: self.bits,
+            m,
+            d,
+            generators: self.generators,
         }
+    }
+
+    /// The same with a threshold, for a call that asks about it.
+    pub fn below(&self, d: u64) -> AnyOrder {
+        AnyOrder { d, ..self.given() }
     }
 
     /// The code as the second tool takes it.
@@ -50,14 +69,31 @@ impl Input {
         Code {
             memory: size(self.v),
             length: size(self.bits),
-            generators: &self.generators[..self.count],
+            generators: first(&self.generators, self.n),
         }
     }
+
+    /// Whether a search would refuse the order for its m.
+    pub fn wrong_degree(&self) -> bool {
+        let m = self.unasked.m;
+        !(1..=12).contains(&m) || m >= self.bits
+    }
+
+    /// Or for its d.
+    pub fn wrong_threshold(&self) -> bool {
+        !(1..=64).contains(&self.unasked.d)
+    }
+}
+
+/// The first n of four generators, as the second tool takes them: more than four
+/// are as wrong as none.
+pub fn first(generators: &[u64; 4], n: u64) -> &[u64] {
+    generators.get(..size(n)).unwrap_or(&[])
 }
 
 pub fn weigh(inputs: u64) -> Tally {
     let mut random = Random::new(0x3E16);
-    let mut tally = Tally::new("weigh", &[3, 4, 5, 8, 9, 12]);
+    let mut tally = Tally::new("weigh", &[3, 4, 5, 8, 9, 12]).with_kind("with m and d wrong");
     for _ in 0..inputs {
         let i = draw(&mut random);
         let plain = link::weight(i.code(), i.word)
@@ -70,6 +106,9 @@ pub fn weigh(inputs: u64) -> Tally {
         let answer = calls::weigh(i.given(), i.word);
         let safe = dohvrin::weigh(i.given(), i.word).map_err(|no| no.number());
         let same = answer == expected && safe == plain;
+        if plain.is_ok() && i.wrong_degree() && i.wrong_threshold() {
+            tally.count_kind();
+        }
         tally.count(expected.refusal, same, || {
             format!("{i:?}: library {answer:?} {safe:?}, second tool {expected:?}")
         });
@@ -79,12 +118,15 @@ pub fn weigh(inputs: u64) -> Tally {
 
 pub fn encode(inputs: u64) -> Tally {
     let mut random = Random::new(0xE4C0DE);
-    let mut tally = Tally::new("encode", &[3, 4, 5, 8, 9, 10, 12]);
+    let mut tally = Tally::new("encode", &[3, 4, 5, 8, 9, 10, 12]).with_kind("with m and d wrong");
     for _ in 0..inputs {
         let i = draw(&mut random);
         let room = draw_room(&mut random, &i);
         let plain = link::encode(i.code(), i.word, room).map_err(number);
         let refusal = plain.as_ref().err().copied().unwrap_or(0);
+        if plain.is_ok() && i.wrong_degree() && i.wrong_threshold() {
+            tally.count_kind();
+        }
         let expected = output_after(plain.ok(), room);
         let before = 1 + random.index(GUARDS);
         let raw = |output: &mut [u8]| calls::encode(i.given(), i.word, output);
@@ -130,7 +172,7 @@ fn guarded(before: usize, output: &[u8]) -> Vec<u8> {
 
 /// None, one short, exact, longer, or any.
 fn draw_room(random: &mut Random, i: &Input) -> usize {
-    let exact = i.count * size(i.bits.min(200));
+    let exact = size(i.n.min(8) * i.bits.min(200));
     match random.within(0, 9) {
         0 => 0,
         1 => exact.saturating_sub(1),
@@ -148,11 +190,12 @@ pub fn draw(random: &mut Random) -> Input {
         13 | 14 => wild(random),
         _ => {
             let mut i = right(random);
-            match random.within(0, 2) {
+            match random.within(0, 3) {
                 0 => i.v = random.huge(i.v),
                 1 => i.bits = random.huge(i.bits),
+                2 => i.n = random.huge(i.n),
                 _ => {
-                    let g = &mut i.generators[random.index(i.count)];
+                    let g = &mut i.generators[random.index(size(i.n))];
                     *g = random.huge(*g);
                 }
             }
@@ -165,27 +208,50 @@ pub fn right(random: &mut Random) -> Input {
     let v = random.within(1, 8);
     let bits = random.length(v);
     let count = 2 + random.index(3);
-    let mut generators = [0; 8];
+    let mut generators = [0; 4];
     for g in &mut generators {
         *g = random.within(1, (2 << v) - 1);
+    }
+    if random.coin() {
+        generators[count..].fill_with(|| random.huge(0));
     }
     generators[random.index(count)] |= 1 << v;
     generators[random.index(count)] |= 1;
     let word = random.word(bits);
     Input {
         generators,
-        count,
+        n: count as u64,
         v,
         bits,
+        unasked: unasked(random, bits),
         word,
+    }
+}
+
+/// Right for an order of words of so many bits, or each zero, too large or any.
+fn unasked(random: &mut Random, bits: u64) -> Unasked {
+    let most = 12.min(bits.saturating_sub(1)).max(1);
+    let (m, d) = (random.within(1, most), random.within(1, 64));
+    if random.coin() {
+        return Unasked { m, d };
+    }
+    let mut wrong = |right: u64| match random.within(0, 3) {
+        0 => 0,
+        1 => random.within(65, 200),
+        _ => random.huge(right),
+    };
+    Unasked {
+        m: wrong(m),
+        d: wrong(d),
     }
 }
 
 fn damaged(random: &mut Random) -> Input {
     let mut i = right(random);
-    let one = random.index(i.count);
+    let given = size(i.n);
+    let one = random.index(given);
     match random.within(0, 9) {
-        0 => i.count = size(random.pick(&[0, 1, 5, 6])),
+        0 => i.n = random.pick(&[0, 1, 5, 6]),
         1 => i.v = random.pick(&[0, 9, 10, 11, 12]),
         2 => i.bits = random.within(0, i.v - 1),
         3 => i.bits = random.within(129, 200),
@@ -193,10 +259,10 @@ fn damaged(random: &mut Random) -> Input {
         5 => i.generators[one] |= 2 << i.v,
         6 => i.generators[one] |= 1 << random.within(i.v + 1, 63),
         // No given generator has bit v, or none bit 0; those behind them may.
-        7 => i.generators[..i.count]
+        7 => i.generators[..given]
             .iter_mut()
             .for_each(|g| *g = *g & !(1 << i.v) | 1),
-        8 => i.generators[..i.count]
+        8 => i.generators[..given]
             .iter_mut()
             .for_each(|g| *g = *g & !1 | 1 << i.v),
         _ => i.word = random.word_above(i.bits),
@@ -206,15 +272,17 @@ fn damaged(random: &mut Random) -> Input {
 
 fn wild(random: &mut Random) -> Input {
     let v = random.within(0, 12);
-    let mut generators = [0; 8];
+    let bits = random.within(0, 200);
+    let mut generators = [0; 4];
     for g in &mut generators {
         *g = random.within(0, (2 << v) + 1);
     }
     Input {
         generators,
-        count: random.index(7),
+        n: random.within(0, 6),
         v,
-        bits: random.within(0, 200),
+        bits,
+        unasked: unasked(random, bits),
         word: random.word(128),
     }
 }

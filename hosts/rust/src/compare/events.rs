@@ -32,13 +32,16 @@ type Expected<'a> = Result<&'a [dso_ref::Event], u64>;
 /// Any inputs, right and damaged, of any length.
 pub fn collect(inputs: u64) -> Tally {
     let mut random = Random::new(0xC011EC7);
-    let mut tally = Tally::new("collect", &[3, 4, 5, 7, 8, 9, 10, 13]);
+    let mut tally = Tally::new("collect", &[3, 4, 5, 7, 8, 9, 10, 13]).with_kind("with m wrong");
     for _ in 0..inputs {
         let mut call = draw(&mut random);
         let code = call.input.code();
         let all = events::collect(code, size(call.d), ENTRIES, call.work).map_err(number);
         call.entries = draw_entries(&mut random, all.as_ref().map_or(ENTRIES, Vec::len));
         let plain = events::collect(code, size(call.d), call.entries, call.work).map_err(number);
+        if plain.is_ok() && call.input.wrong_degree() {
+            tally.count_kind();
+        }
         compare(&mut tally, &call, plain.as_deref().map_err(|no| *no));
     }
     tally
@@ -142,13 +145,13 @@ impl Lent {
 
     fn raw(mut self, call: &Call, expected: Expected) -> (Answer, bool) {
         let (table, work) = (self.table.lent(), self.work.lent());
-        let answer = calls::collect(call.input.given(), call.d, table, work);
+        let answer = calls::collect(call.input.below(call.d), table, work);
         (answer, self.is_left(expected))
     }
 
     fn safe(mut self, call: &Call, expected: Expected) -> (Result<usize, u64>, bool) {
         let (table, work) = (self.table.lent(), self.work.lent());
-        let answer = dohvrin::collect(call.input.given(), call.d, table, work);
+        let answer = dohvrin::collect(call.input.below(call.d), table, work);
         (answer.map_err(|no| no.number()), self.is_left(expected))
     }
 

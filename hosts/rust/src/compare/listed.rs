@@ -201,7 +201,7 @@ fn share_factor(random: &mut Random, input: &mut Input) {
         _ => 3,
     };
     let left = input.v - u64::from(63 - u64::leading_zeros(factor));
-    let given = input.count;
+    let given = size(input.n);
     let mut others: Vec<u64> = (0..given)
         .map(|_| random.within(1, (2 << left) - 1))
         .collect();

@@ -31,7 +31,7 @@ type Expected<'a> = Result<&'a Tables, u64>;
 /// Any inputs, right and damaged, of any length.
 pub fn list(inputs: u64) -> Tally {
     let mut random = Random::new(0x115794);
-    let mut tally = Tally::new("list", &[3, 4, 5, 7, 8, 9, 10, 13, 14]);
+    let mut tally = Tally::new("list", &[3, 4, 5, 7, 8, 9, 10, 13, 14]).with_kind("with m wrong");
     for _ in 0..inputs {
         let (input, d, lent) = draw(&mut random);
         let mut call = Call { input, d, lent };
@@ -59,6 +59,9 @@ pub fn list(inputs: u64) -> Tally {
             Err(no) => compare(&mut tally, &call, Err(number(no))),
             Ok(paths) => {
                 let tables = Tables::new(input, d, events, paths);
+                if tables.within(call.lent).is_ok() && input.wrong_degree() {
+                    tally.count_kind();
+                }
                 compare_listed(&mut tally, &tables, call.lent);
             }
         }
@@ -154,7 +157,7 @@ fn large(tally: &mut Tally, input: Input, d: u64, events: usize, paths: usize) -
         && listed.windows(2).all(|two| two[0] < two[1]);
     assert!(right, "{input:?}: not the {paths} paths of the order");
     let mut table = vec![Event::default(); events];
-    let collected = dohvrin::collect(input.given(), d, &mut table, &mut [0; WORK]);
+    let collected = dohvrin::collect(input.below(d), &mut table, &mut [0; WORK]);
     assert_eq!(collected, Ok(events), "{input:?}");
     let tables = Tables::new(input, d, table, listed);
     tables.count_again();
@@ -212,14 +215,14 @@ impl Lent {
     fn raw(mut self, call: &Call, expected: Expected) -> (Listing, bool) {
         let (events, paths) = (self.events.lent(), self.paths.lent());
         let (counts, work) = (self.counts.lent(), self.work.lent());
-        let answer = calls::list(call.input.given(), call.d, events, paths, counts, work);
+        let answer = calls::list(call.input.below(call.d), events, paths, counts, work);
         (answer, self.is_left(expected))
     }
 
     fn safe(mut self, call: &Call, expected: Expected) -> (Result<Listed, u64>, bool) {
         let (events, paths) = (self.events.lent(), self.paths.lent());
         let (counts, work) = (self.counts.lent(), self.work.lent());
-        let answer = dohvrin::list(call.input.given(), call.d, events, paths, counts, work);
+        let answer = dohvrin::list(call.input.below(call.d), events, paths, counts, work);
         (answer.map_err(|no| no.number()), self.is_left(expected))
     }
 

@@ -4,6 +4,7 @@ use crate::number;
 use crate::random::Random;
 use crate::tally::Tally;
 use dohvrin::calls::{self, OrderAnswer};
+use dohvrin::AnyOrder;
 use dso_ref::order::record_bytes;
 use dso_ref::Order;
 
@@ -36,30 +37,26 @@ fn answer_of(plain: &Result<Order, u64>) -> OrderAnswer {
             };
         }
     };
-    let g = |k: usize| order.generators().get(k).copied().unwrap_or(0);
     OrderAnswer {
         refusal: 0,
-        n: order.generators().len() as u64,
-        v: order.memory() as u64,
-        bits: order.length() as u64,
-        m: order.degree() as u64,
-        d: order.threshold() as u64,
-        g1: g(0),
-        g2: g(1),
-        g3: g(2),
-        g4: g(3),
+        order: any_of(order),
     }
 }
 
-fn order_of(order: Order) -> dohvrin::Order {
-    dohvrin::Order::new(
+/// Generators past the n-th are 0.
+fn any_of(order: &Order) -> AnyOrder {
+    AnyOrder::new(
         order.generators(),
         order.memory() as u64,
         order.length() as u64,
         order.degree() as u64,
         order.threshold() as u64,
     )
-    .expect("both accept it")
+}
+
+fn order_of(order: Order) -> dohvrin::Order {
+    let AnyOrder { v, bits, m, d, .. } = any_of(&order);
+    dohvrin::Order::new(order.generators(), v, bits, m, d).expect("both accept it")
 }
 
 /// A right record or what became of it, and how many of the bytes are given;

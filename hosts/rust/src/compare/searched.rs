@@ -9,7 +9,7 @@ use crate::random::Random;
 use crate::tally::Tally;
 use crate::{number, size};
 use dohvrin::calls::{self, Row};
-use dohvrin::{Found, Listed, Searched};
+use dohvrin::{AnyOrder, Found, Listed, Searched};
 use dso_ref::search::{best, Best, Counter};
 use dso_ref::{questions, Order, Refusal};
 
@@ -32,6 +32,14 @@ pub struct Sizes {
 }
 
 impl Call {
+    /// The order as the library takes it.
+    fn given(&self) -> AnyOrder {
+        AnyOrder {
+            m: self.m,
+            ..self.input.below(self.d)
+        }
+    }
+
     /// The order, or the number of the first question before 13 that says no.
     pub fn order(&self) -> Result<Order, u64> {
         let (m, d) = (size(self.m), size(self.d));
@@ -147,11 +155,11 @@ impl Lent {
     }
 
     fn raw(mut self, call: &Call, expected: Expected) -> (Row, bool) {
-        let (code, m, d) = (call.input.given(), call.m, call.d);
+        let order = call.given();
         let answer = match call.of {
-            None => calls::search(code, m, d, self.lent()),
+            None => calls::search(order, self.lent()),
             Some(polynomial) => {
-                let answer = calls::count(code, m, d, polynomial, self.lent());
+                let answer = calls::count(order, polynomial, self.lent());
                 Row {
                     refusal: answer.refusal,
                     events: answer.events,
@@ -165,11 +173,11 @@ impl Lent {
     }
 
     fn safe(mut self, call: &Call, expected: Expected) -> (Result<Searched, u64>, bool) {
-        let (code, m, d) = (call.input.given(), call.m, call.d);
+        let order = call.given();
         let answer = match call.of {
-            None => dohvrin::search(code, m, d, self.lent()),
+            None => dohvrin::search(order, self.lent()),
             Some(polynomial) => {
-                let answer = dohvrin::count(code, m, d, polynomial, self.lent());
+                let answer = dohvrin::count(order, polynomial, self.lent());
                 answer.map(|Listed { events, paths }| {
                     Searched::Found(Found {
                         events,

@@ -41,8 +41,7 @@ fn draw_long(random: &mut Random) -> (Input, u64) {
 
 /// The count, where the code has an order: words of one bit have no check.
 fn needed(input: &Input, d: u64) -> Option<Entries> {
-    let code = input.given();
-    let order = Order::new(code.generators, code.v, code.bits, 1, d).ok()?;
+    let order = Order::new(input.code().generators, input.v, input.bits, 1, d).ok()?;
     Some(Entries::needed(&order))
 }
 
@@ -78,13 +77,6 @@ fn list(input: &Input, d: u64, events: usize, paths: usize) -> (Result<Listed, R
     let mut table = vec![Event::default(); events];
     let (mut numbers, mut counts) = (vec![0; 2 * paths], vec![0; size(d)]);
     let work = &mut [0; WORK];
-    let listed = dohvrin::list(
-        input.given(),
-        d,
-        &mut table,
-        &mut numbers,
-        &mut counts,
-        work,
-    );
+    let listed = dohvrin::list(input.below(d), &mut table, &mut numbers, &mut counts, work);
     (listed, counts)
 }

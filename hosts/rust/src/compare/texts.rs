@@ -1,10 +1,11 @@
 //! The texts of rows and refusals, of any numbers, in any buffers.
 
+use crate::codes::first;
 use crate::random::Random;
 use crate::tally::Tally;
 use crate::{number, size};
 use dohvrin::calls::{self, Answer};
-use dohvrin::{Code, Found, TEXT};
+use dohvrin::{AnyOrder, Found, TEXT};
 use dso_ref::print::Printed;
 use dso_ref::{questions, Refusal};
 
@@ -13,29 +14,17 @@ const FILL: u8 = 0xA5;
 const GUARD: u8 = 0x3C;
 const GUARDS: usize = 64;
 
-/// What the text of a row is made of: the first `count` generators, and others
-/// behind them; v, N, m and d; events, paths and polynomial; both counts.
+/// What the text of a row is made of: the order; events, paths and polynomial;
+/// both counts.
 #[derive(Clone, Debug)]
 struct Input {
-    generators: [u64; 8],
-    count: usize,
-    order: [u64; 4],
+    order: AnyOrder,
     found: [u64; 3],
     plain: Vec<u64>,
     undetected: Vec<u64>,
 }
 
 impl Input {
-    /// The code as the library takes it.
-    fn code(&self) -> Code<'_> {
-        let [v, bits, ..] = self.order;
-        Code {
-            generators: &self.generators[..self.count],
-            v,
-            bits,
-        }
-    }
-
     fn found(&self) -> Found {
         let [events, paths, polynomial] = self.found;
         Found {
@@ -47,17 +36,20 @@ impl Input {
 
     /// The text, after questions 3, 7 and 10.
     fn text(&self, room: usize) -> Result<String, u64> {
-        let [_, _, _, d] = self.order.map(size);
+        let AnyOrder { v, bits, m, d, .. } = self.order;
+        let numbers = [v, bits, m, d].map(size);
+        let d = size(d);
+        let generators = first(&self.order.generators, self.order.n);
         let [events, paths, polynomial] = self.found;
-        questions::generator_count(self.count).map_err(number)?;
+        questions::generator_count(generators.len()).map_err(number)?;
         questions::threshold(d).map_err(number)?;
         if self.plain.len() < d || self.undetected.len() < d || room < TEXT {
             return Err(10);
         }
         let wide = |counts: &[u64]| counts[..d].iter().map(|&x| x.into()).collect::<Vec<u128>>();
         let printed = Printed {
-            numbers: self.order.map(size),
-            generators: &self.generators[..self.count],
+            numbers,
+            generators,
             events: size(events),
             paths: paths.into(),
             plain: &wide(&self.plain),
@@ -75,12 +67,10 @@ pub fn row_text(inputs: u64) -> Tally {
         let i = draw(&mut random);
         let room = draw_room(&mut random);
         let expected = i.text(room);
-        let [_, _, m, d] = i.order;
+        let (order, found) = (i.order, i.found());
         let (plain, undetected) = (&i.plain, &i.undetected);
-        let raw =
-            |text: &mut [u8]| calls::row_text(i.code(), m, d, i.found(), plain, undetected, text);
-        let safe =
-            |text: &mut [u8]| dohvrin::row_text(i.code(), m, d, i.found(), plain, undetected, text);
+        let raw = |text: &mut [u8]| calls::row_text(order, found, plain, undetected, text);
+        let safe = |text: &mut [u8]| dohvrin::row_text(order, found, plain, undetected, text);
         compare(&mut tally, room, expected, raw, safe, || format!("{i:?}"));
     }
     tally
@@ -168,16 +158,17 @@ fn draw(random: &mut Random) -> Input {
         2 => 64,
         _ => random.within(1, 64),
     };
-    let count = match random.within(0, 15) {
-        0 => random.index(8),
-        _ => 2 + random.index(3),
+    let n = match random.within(0, 15) {
+        0 => random.within(0, 7),
+        1 => random.huge(2),
+        _ => random.within(2, 4),
     };
     let number = match random.within(0, 15) {
         0 => |_: &mut Random| u64::MAX,
         1 => |_: &mut Random| 0,
         _ => any,
     };
-    let mut generators = [0; 8];
+    let mut generators = [0; 4];
     generators.fill_with(|| number(random));
     let counts = |random: &mut Random| {
         let enough = size(d.min(64));
@@ -191,9 +182,14 @@ fn draw(random: &mut Random) -> Input {
     };
     let (plain, undetected) = (counts(random), counts(random));
     Input {
-        generators,
-        count,
-        order: [number(random), number(random), number(random), d],
+        order: AnyOrder {
+            n,
+            v: number(random),
+            bits: number(random),
+            m: number(random),
+            d,
+            generators,
+        },
         found: [number(random), number(random), number(random)],
         plain,
         undetected,

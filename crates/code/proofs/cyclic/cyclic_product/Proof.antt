@@ -1,7 +1,7 @@
 -- The invariant: the output of the generator without its j lowest coefficients.
 -- Assumes nothing.
-use mathlib.Core.Path.{_≡_, refl, _∙_, subst, subst⁻¹}
-use Prim.Native.Nat.{ℕ, _+_, _/_, _^_, _≤_, _<_}
+use mathlib.Core.Path.{_≡_, refl, _∙_}
+use Prim.Native.Nat.{_+_, _/_, _^_, _≤_}
 use native.Mathlib.Nat.{le-refl}
 use native.Mathlib.Omega.{arith}
 use Rattle.poly.specs.Word.{number}
@@ -25,13 +25,19 @@ add-j : tie.Need-add-j Inv-loop μ-loop
 add-j c = omega arith
 
 loop-holds : tie.Need-loop-holds Inv-loop μ-loop
-loop-holds c = (le-refl _, c .make .ensures ∙ output-none _ _ _ _ (c .before .pre .4))
+loop-holds c = (le-refl _, c .make .ensures ∙ output-none _ _ _ _ (c .before .pre .in-range))
 
 sub-j : tie.Need-sub-j Inv-loop μ-loop
 sub-j c = omega arith
 
 turn-requires : tie.Need-turn-requires Inv-loop μ-loop
-turn-requires c κs = let p = c .before .before .before .pre in (p .0, p .1, subst⁻¹ (λ (x : ℕ). x < 2 ^ c .before .before .before .args .bits) (c .before .loop .inv .1) (output-lt _ _ _ (p .0)))
+turn-requires c κs =
+    let word = c .before .before .before .pre .word in
+    record {
+      some-bits = word .some-bits;
+      at-most-128 = word .at-most-128;
+      fits = rw (c .before .loop .inv .1) (output-lt _ _ _ (word .some-bits));
+    }
 
 shr-add-times : tie.Need-shr-add-times Inv-loop μ-loop
 shr-add-times c = omega arith
@@ -43,7 +49,11 @@ loop-less : tie.Need-loop-less Inv-loop μ-loop
 loop-less c = omega arith
 
 loop-again : tie.Need-loop-again Inv-loop μ-loop
-loop-again c = let l = c .before .before .before .loop in (omega arith, output-more _ _ _ (l .j) _ _ _ _ (c .before .before .before .before .before .pre .3) (omega arith) (l .inv .1) (c .before .turn .ensures) refl (c .add-times .ensures))
+loop-again c =
+    let l = c .before .before .before .loop in
+    let word = c .before .before .before .before .before .pre .word in
+    let turned = c .before .turn .ensures in
+    (omega arith, output-more _ _ _ (l .j) _ _ _ _ (word .fits) (omega arith) (l .inv .1) turned refl (c .add-times .ensures))
 
 returns : tie.Need-returns Inv-loop μ-loop
 returns c = output-all _ _ _ _ _ (omega arith) (c .before .loop .inv .1)

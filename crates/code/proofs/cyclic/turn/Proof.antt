@@ -1,6 +1,6 @@
 -- One bit shifted in, cut to the word's bits.
 -- Assumes nothing.
-use mathlib.Core.Path.{subst, subst⁻¹}
+use mathlib.Core.Path.{subst⁻¹}
 use Prim.Native.Nat.{ℕ, _<_}
 use Rattle.poly.proofs.Sum.{bit-lt}
 use Rattle.code.proofs.Turn.{turned-by}
@@ -21,7 +21,10 @@ low-bits-requires : tie.Need-low-bits-requires
 low-bits-requires c κs = search needs
 
 returns : tie.Need-returns
-returns c = let p = c .before .before .before .pre in turned-by _ _ _ _ _ (p .0) (p .1) (p .2) (c .before .before .bit-at .ensures) (c .before .shift-in .ensures) (c .low-bits .ensures)
+returns c =
+    let p = c .before .before .before .pre in
+    turned-by _ _ _ _ _ (p .some-bits) (p .at-most-128) (p .fits) (c .before .before .bit-at .ensures) (c .before .shift-in .ensures)
+    (c .low-bits .ensures)
 
 pub turn-spec : {M : Type 1} → statement M
 turn-spec =

@@ -1,59 +1,96 @@
 -- The invariant: the state before step t, and what the first t steps send at the front of a cleared output.
 -- Assumes nothing.
-use lib.ListN.{length-replicate}
-use mathlib.Core.Path.{_≡_, refl, sym, ap, _∙_, subst, subst⁻¹}
-use mathlib.Core.List.{map}
+use mathlib.Core.Path.{_≡_, refl, sym, ap, _∙_}
+use mathlib.Core.List.{List, map}
 use Prim.Native.Nat.{ℕ, _+_, _-_, _*_, _≤_, _<_, zero-le}
 use native.Mathlib.Nat.{zero-mul, le-refl}
 use native.Mathlib.Omega.{arith}
-use lib.ListN.{length}
+use lib.ListN.{length, length-replicate}
 use lib.Pow.{pow-pos}
 use lib.Seq.{sets}
 use Rattle.poly.specs.Word.{number}
 use Rattle.poly.proofs.Sum.{bit-lt}
 use Rattle.code.specs.Trellis.{stateAt, tapped}
 use Rattle.code.proofs.Sent.{first-small, sent, sent-none, sent-more, state-more, step-room, at-more, stored-length, all-sent}
-use Rattle.code.proofs.Calls.{fit-of-range}
+use Rattle.code.proofs.Calls.{fit-of-code}
 use Rattle.code.proofs.encoder.encode_steps.Statement.{statement}
 use Rattle.code.proofs.encoder.encode_steps.Tie as tie
 
+record Sending (output₀ gs : List ℕ) (v bits u : ℕ) (output : List ℕ) (s t at : ℕ) : Type 0 where
+  within : t ≤ bits
+  state : s ≡ stateAt v bits u t
+  place : at ≡ t * length gs
+  same-size : length output ≡ length output₀
+  stored : output ≡ sets output₀ 0 (sent v bits gs u t)
+
 abbrev Inv-loop : tie.InvT-loop
-Inv-loop output₀ generators v bits word s₀ t₀ at₀ output s t at =
-    (t ≤ bits) × (s ≡ stateAt v bits (number word) t) × (at ≡ t * length generators) × (length output ≡ length output₀)
-    × (output ≡ sets output₀ 0 (sent v bits generators (number word) t))
+Inv-loop output₀ generators v bits word s₀ t₀ at₀ output s t at = Sending output₀ generators v bits (number word) output s t at
 
 abbrev μ-loop : tie.MeasureT-loop
 μ-loop output₀ generators v bits word s₀ t₀ at₀ output s t at = bits - t
 
-clear-requires : tie.Need-clear-requires Inv-loop μ-loop
-clear-requires c κs = tt
+-- ---- at the loop's test
+
+abbrev start : tie.At-loop Inv-loop μ-loop → tie.Start Inv-loop μ-loop
+start c = c .before .before .before .before .before .before .before .before
+
+cleared : (c : tie.At-loop Inv-loop μ-loop) → length (c .loop .output) ≡ length (start c .args .output .now)
+cleared c = c .loop .inv .same-size ∙ ap length (c .before .before .before .before .clear-bytes .ensures) ∙ length-replicate _ _
+
+small-state : (c : tie.At-loop Inv-loop μ-loop) → c .loop .s < 256
+small-state c = first-small _ _ _ _ _ _ (le-refl _) (start c .pre .word .code .small-memory) (c .loop .inv .state)
+
+has-room : (c : tie.In-loop Inv-loop μ-loop)
+    → c .before .loop .at + length (start (c .before) .args .generators .now) ≤ length (start (c .before) .args .output .now)
+has-room c =
+    let a = start (c .before) .args in
+    let l = c .before .loop in
+    let room = start (c .before) .pre .room in
+    step-room (a .v) (a .bits) (a .generators .now) (number (a .word)) (l .t) (l .at) _ (omega arith) (l .inv .place) room
+
+-- ---- the needs
+
+clear-bytes-requires : tie.Need-clear-bytes-requires Inv-loop μ-loop
+clear-bytes-requires c κs = tt
 
 first-state-requires : tie.Need-first-state-requires Inv-loop μ-loop
-first-state-requires c κs = omega arith
+first-state-requires c κs =
+    let code = c .before .before .before .before .before .before .pre .word .code in
+    record { small-memory = code .small-memory; long-enough = code .long-enough; at-most-128 = code .at-most-128 }
 
 loop-holds : tie.Need-loop-holds Inv-loop μ-loop
-loop-holds c = let a = c .before .before .before .before .before .before .before .args in (zero-le, c .first-state .ensures, sym (zero-mul _), refl, ap (sets _ 0) (sym (sent-none (a .v) (a .bits) (a .generators .now) (number (a .word)))))
+loop-holds c =
+    let a = c .before .before .before .before .before .before .before .args in
+    record {
+      within = zero-le;
+      state = c .first-state .ensures;
+      place = sym (zero-mul _);
+      same-size = refl;
+      stored = ap (sets _ 0) (sym (sent-none (a .v) (a .bits) (a .generators .now) (number (a .word))));
+    }
 
 mul-window : tie.Need-mul-window Inv-loop μ-loop
-mul-window c = omega (arith, first-small _ _ _ _ _ _ (le-refl _) (c .before .before .before .before .before .before .before .before .before .pre .1) (c .before .loop .inv .1))
+mul-window c = omega (arith, small-state (c .before))
 
 bit-at-requires : tie.Need-bit-at-requires Inv-loop μ-loop
 bit-at-requires c κs = tt
 
 add-window : tie.Need-add-window Inv-loop μ-loop
-add-window c = let d : c .bit-at .result < 2 = subst⁻¹ (λ (x : ℕ). x < 2) (c .bit-at .ensures) (bit-lt _ _) in omega (arith, first-small _ _ _ _ _ _ (le-refl _) (c .before .before .before .before .before .before .before .before .before .before .pre .1) (c .before .before .loop .inv .1))
+add-window c = let d : c .bit-at .result < 2 = rw (c .bit-at .ensures) (bit-lt _ _) in omega (arith, small-state (c .before .before))
 
 put-step-requires : tie.Need-put-step-requires Inv-loop μ-loop
-put-step-requires c κs = let l = c .before .before .before .loop in let a = c .before .before .before .before .before .before .before .before .before .before .before .args in let k : length (l .output) ≡ length (a .output .now) = l .inv .3 ∙ ap length (c .before .before .before .before .before .before .before .clear .ensures) ∙ length-replicate _ _ in step-room (a .v) (a .bits) (a .generators .now) (number (a .word)) (l .t) (l .at) (length (l .output)) (omega arith) (l .inv .2) (subst⁻¹ (λ (x : ℕ). length (a .generators .now) * a .bits ≤ x) k (c .before .before .before .before .before .before .before .before .before .before .before .pre .6))
+put-step-requires c κs = omega (arith, has-room (c .before .before), cleared (c .before .before .before))
 
 power-requires : tie.Need-power-requires Inv-loop μ-loop
-power-requires c κs = omega arith
+power-requires c κs = omega (arith, start (c .before .before .before .before .before .before) .pre .word .code .small-memory)
 
 rem-s : tie.Need-rem-s Inv-loop μ-loop
-rem-s c = subst⁻¹ (λ (x : ℕ). 0 < x) (c .power .ensures) (pow-pos _)
+rem-s c = rw (c .power .ensures) (pow-pos _)
 
 add-at : tie.Need-add-at Inv-loop μ-loop
-add-at c = let l = c .before .before .before .before .before .before .before .loop in let a = c .before .before .before .before .before .before .before .before .before .before .before .before .before .before .before .args in omega (arith, step-room (a .v) (a .bits) (a .generators .now) (number (a .word)) (l .t) (l .at) (length (a .output .now)) (omega arith) (l .inv .2) (c .before .before .before .before .before .before .before .before .before .before .before .before .before .before .before .pre .6), c .before .before .before .before .before .before .before .before .before .before .before .before .before .before .before .good .0)
+add-at c =
+    let turn = c .before .before .before .before .before .before in
+    omega (arith, has-room turn, start (turn .before) .good .0)
 
 add-t : tie.Need-add-t Inv-loop μ-loop
 add-t c = omega arith
@@ -62,22 +99,33 @@ loop-less : tie.Need-loop-less Inv-loop μ-loop
 loop-less c = omega arith
 
 loop-again : tie.Need-loop-again Inv-loop μ-loop
-loop-again c = let l = c .before .before .before .before .before .before .before .loop in
-    let a = c .before .before .before .before .before .before .before .before .before .before .before .before .before .before .before .args in
+loop-again c =
+    let top = c .before .before .before .before .before .before .before in
+    let l = top .loop in
+    let i = l .inv in
+    let a = start top .args in
     let u = number (a .word) in
-    let stored = c .before .before .before .put-step .ensures in (
-      omega arith,
-      state-more (a .v) (a .bits) (a .generators .now) u (l .t) _ _ _ (omega arith) (l .inv .1) (c .before .before .before .before .before .bit-at .ensures) (c .power .ensures),
-      at-more (a .v) (a .bits) (a .generators .now) u (l .t) (l .at) (l .inv .2),
-      stored-length (l .output) _ (l .at) (map (tapped (2 * l .s + c .before .before .before .before .before .bit-at .result)) (a .generators .now)) _ stored (l .inv .3),
-      sent-more (a .v) (a .bits) (a .generators .now) u (l .t) (l .at) _ _ _ _ _ (l .inv .2) (l .inv .4) (l .inv .1) (c .before .before .before .before .before .bit-at .ensures) stored,
-    )
+    let bit = c .before .before .before .before .before .bit-at in
+    let put = c .before .before .before .put-step .ensures in
+    let gs = a .generators .now in
+    record {
+      within = omega arith;
+      state = state-more (a .v) (a .bits) gs u (l .t) _ _ _ (omega arith) (i .state) (bit .ensures) (c .power .ensures);
+      place = at-more (a .v) (a .bits) gs u (l .t) (l .at) (i .place);
+      same-size = stored-length (l .output) _ (l .at) (map (tapped (2 * l .s + bit .result)) gs) _ put (i .same-size);
+      stored = sent-more (a .v) (a .bits) gs u (l .t) (l .at) _ _ _ _ _ (i .place) (i .stored) (i .state) (bit .ensures) put;
+    }
 
 same-length : tie.Need-same-length Inv-loop μ-loop
-same-length c = c .before .loop .inv .3 ∙ ap length (c .before .before .before .before .before .clear .ensures) ∙ length-replicate _ _
+same-length c = cleared (c .before)
 
 returns : tie.Need-returns Inv-loop μ-loop
-returns c = let l = c .before .loop in let a = c .before .before .before .before .before .before .before .before .before .args in let p = c .before .before .before .before .before .before .before .before .before .pre in all-sent (a .v) (a .bits) (a .generators .now) (number (a .word)) (l .t) _ _ (a .output .now) (p .2) (p .4) (fit-of-range _ _ (p .5)) (omega arith) (p .6) (c .before .before .before .before .before .clear .ensures) (l .inv .4)
+returns c =
+    let l = c .before .loop in
+    let a = start (c .before) .args in
+    let p = start (c .before) .pre in
+    all-sent (a .v) (a .bits) (a .generators .now) (number (a .word)) (l .t) _ _ (a .output .now) (p .word .code .long-enough) (p .word .fits)
+    (fit-of-code _ (p .word .code)) (omega arith) (p .room) (c .before .before .before .before .before .clear-bytes .ensures) (l .inv .stored)
 
 pub encode-steps-spec : {M : Type 1} → statement M
 encode-steps-spec =
@@ -85,7 +133,7 @@ encode-steps-spec =
     (tie.spec
     Inv-loop
     μ-loop
-    clear-requires
+    clear-bytes-requires
     first-state-requires
     loop-holds
     mul-window

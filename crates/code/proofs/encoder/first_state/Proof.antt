@@ -1,7 +1,7 @@
 -- The invariant: a state of k bits of memory, k steps before the end.
 -- Assumes nothing.
-use mathlib.Core.Path.{_≡_, subst, subst⁻¹}
-use Prim.Native.Nat.{ℕ, _+_, _-_, _≤_, _<_, zero-le}
+use mathlib.Core.Path.{_≡_}
+use Prim.Native.Nat.{_+_, _-_, _≤_, _<_, zero-le}
 use native.Mathlib.Omega.{arith}
 use Rattle.poly.specs.Word.{number}
 use Rattle.poly.proofs.Sum.{bit-lt}
@@ -20,7 +20,7 @@ loop-holds : tie.Need-loop-holds Inv-loop μ-loop
 loop-holds c = (zero-le, first-none _ _ _)
 
 mul-s : tie.Need-mul-s Inv-loop μ-loop
-mul-s c = omega (arith, first-small _ _ _ _ _ _ (c .before .loop .inv .0) (c .before .before .pre .0) (c .before .loop .inv .1))
+mul-s c = omega (arith, first-small _ _ _ _ _ _ (c .before .loop .inv .0) (c .before .before .pre .small-memory) (c .before .loop .inv .1))
 
 sub-bit-at : tie.Need-sub-bit-at Inv-loop μ-loop
 sub-bit-at c = omega arith
@@ -32,7 +32,10 @@ bit-at-requires : tie.Need-bit-at-requires Inv-loop μ-loop
 bit-at-requires c κs = tt
 
 add-s : tie.Need-add-s Inv-loop μ-loop
-add-s c = let d : c .bit-at .result < 2 = subst⁻¹ (λ (x : ℕ). x < 2) (c .bit-at .ensures) (bit-lt _ _) in omega (arith, first-small _ _ _ _ _ _ (c .before .before .loop .inv .0) (c .before .before .before .pre .0) (c .before .before .loop .inv .1))
+add-s c =
+    let d : c .bit-at .result < 2 = rw (c .bit-at .ensures) (bit-lt _ _) in
+    let l = c .before .before .loop .inv in
+    omega (arith, first-small _ _ _ _ _ _ (l .0) (c .before .before .before .pre .small-memory) (l .1))
 
 add-k : tie.Need-add-k Inv-loop μ-loop
 add-k c = omega arith
@@ -41,10 +44,16 @@ loop-less : tie.Need-loop-less Inv-loop μ-loop
 loop-less c = omega arith
 
 loop-again : tie.Need-loop-again Inv-loop μ-loop
-loop-again c = let l = c .before .before .loop in let a = c .before .before .before .args in (omega arith, first-more (a .v) (a .bits) _ (l .k) _ _ (omega arith) (omega arith) (l .inv .1) (c .bit-at .ensures))
+loop-again c =
+    let l = c .before .before .loop in
+    let a = c .before .before .before .args in
+    (omega arith, first-more (a .v) (a .bits) _ (l .k) _ _ (omega arith) (omega arith) (l .inv .1) (c .bit-at .ensures))
 
 returns : tie.Need-returns Inv-loop μ-loop
-returns c = let l = c .before .loop in let a = c .before .before .args in first-all (a .v) (a .bits) _ (l .k) _ (omega arith) (omega arith) (l .inv .1)
+returns c =
+    let l = c .before .loop in
+    let a = c .before .before .args in
+    first-all (a .v) (a .bits) _ (l .k) _ (omega arith) (omega arith) (l .inv .1)
 
 pub first-state-spec : {M : Type 1} → statement M
 first-state-spec =

@@ -2,8 +2,8 @@
 -- Assumes nothing.
 use borrow.Author.Needs.{needs}
 use mathlib.Core.Path.{_≡_, refl, ap, _∙_}
-use mathlib.Core.List.{map}
-use Prim.Native.Nat.{_+_, _-_, _≤_, zero-le}
+use mathlib.Core.List.{List, map}
+use Prim.Native.Nat.{ℕ, _+_, _-_, _≤_, zero-le}
 use native.Mathlib.Omega.{arith}
 use lib.ListN.{length, take, set, length-set}
 use lib.Seq.{sets}
@@ -12,15 +12,19 @@ use Rattle.code.specs.Trellis.{tapped}
 use Rattle.code.proofs.encoder.put_step.Statement.{statement}
 use Rattle.code.proofs.encoder.put_step.Tie as tie
 
+record Storing (output₀ : List ℕ) (at : ℕ) (gs : List ℕ) (window : ℕ) (output : List ℕ) (i : ℕ) : Type 0 where
+  within : i ≤ length gs
+  same-size : length output ≡ length output₀
+  stored : output ≡ sets output₀ at (map (tapped window) (take i gs))
+
 abbrev Inv-loop : tie.InvT-loop
-Inv-loop output₀ at generators window i₀ output i =
-    (i ≤ length generators) × (length output ≡ length output₀) × (output ≡ sets output₀ at (map (tapped window) (take i generators)))
+Inv-loop output₀ at generators window i₀ output i = Storing output₀ at generators window output i
 
 abbrev μ-loop : tie.MeasureT-loop
 μ-loop output₀ at generators window i₀ output i = length generators - i
 
 loop-holds : tie.Need-loop-holds Inv-loop μ-loop
-loop-holds c = (zero-le, refl, refl)
+loop-holds c = record { within = zero-le; same-size = refl; stored = refl }
 
 mul-parity : tie.Need-mul-parity Inv-loop μ-loop
 mul-parity c = search needs
@@ -44,13 +48,24 @@ loop-less : tie.Need-loop-less Inv-loop μ-loop
 loop-less c = omega arith
 
 loop-again : tie.Need-loop-again Inv-loop μ-loop
-loop-again c = let l = c .before .before .before .loop in let a = c .before .before .before .before .before .before .args in (omega arith, length-set (l .output) (a .at + l .i) _ ∙ l .inv .1, ap (λ x. set x (a .at + l .i) (c .parity .result)) (l .inv .2) ∙ sets-map-more (tapped (a .window)) (a .generators .now) 0 (a .output .now) (a .at) (l .i) _ (omega arith) (c .parity .ensures))
+loop-again c =
+    let l = c .before .before .before .loop in
+    let a = c .before .before .before .before .before .before .args in
+    let more = sets-map-more (tapped (a .window)) (a .generators .now) 0 (a .output .now) (a .at) (l .i) _ (omega arith) in
+    record {
+      within = omega arith;
+      same-size = length-set (l .output) (a .at + l .i) _ ∙ l .inv .same-size;
+      stored = ap (λ x. set x (a .at + l .i) (c .parity .result)) (l .inv .stored) ∙ more (c .parity .ensures);
+    }
 
 same-length : tie.Need-same-length Inv-loop μ-loop
-same-length c = c .before .loop .inv .1
+same-length c = c .before .loop .inv .same-size
 
 returns : tie.Need-returns Inv-loop μ-loop
-returns c = let l = c .before .loop in let a = c .before .before .before .before .args in l .inv .2 ∙ sets-map-all (tapped (a .window)) (a .generators .now) 0 (a .output .now) (a .at) (l .i) (omega arith)
+returns c =
+    let l = c .before .loop in
+    let a = c .before .before .before .before .args in
+    l .inv .stored ∙ sets-map-all (tapped (a .window)) (a .generators .now) 0 (a .output .now) (a .at) (l .i) (omega arith)
 
 pub put-step-spec : {M : Type 1} → statement M
 put-step-spec =

@@ -1,55 +1,54 @@
--- The first of four tests that fails, or none.
+-- By what the call takes.
 -- Assumes nothing.
-use mathlib.Core.Path.{sym, _∙_}
-use borrow.Author.Tests.{not-true, not-false}
-use Rattle.order.proofs.FirstNo.{firstNo-none, firstNo-yes, firstNo-no}
-use Rattle.order.specs.Questions.{orderNumbers}
+use mathlib.Core.Path.{_≡_, sym, ap, _∙_}
+use Rattle.order.specs.Questions.{firstNo}
+use Rattle.order.specs.declared.questions.Takes.{Takes}
 use borrow.Author.Needs.{needs}
+use Rattle.order.specs.Order.{Order, numberQuestions}
+use Rattle.order.specs.Answers.{orderIn}
+use Rattle.order.proofs.FirstNo.{firstNo-none}
 use Rattle.order.proofs.record.ask_numbers.Statement.{statement}
 use Rattle.order.proofs.record.ask_numbers.Tie as tie
 
-from-to-requires : tie.Need-from-to-requires
-from-to-requires c κs = search needs
+asked-as : (takes takes′ : Takes) (o : Order) → takes ≡ takes′ → firstNo (numberQuestions takes o) ≡ firstNo (numberQuestions takes′ o)
+asked-as takes takes′ o e = ap (λ (t : Takes). firstNo (numberQuestions t o)) e
+
+enum-told : tie.Need-enum-told
+enum-told c = search needs
+
+enum-told-2 : tie.Need-enum-told-2
+enum-told-2 c = search needs
+
+ask-threshold-requires : tie.Need-ask-threshold-requires
+ask-threshold-requires c κs = tt
+
+enum-told-3 : tie.Need-enum-told-3
+enum-told-3 c = search needs
+
+ask-degree-requires : tie.Need-ask-degree-requires
+ask-degree-requires c κs = tt
 
 returns : tie.Need-returns
-unfolding orderNumbers
-returns c = sym (firstNo-no _ _ (sym (c .before .from-to .ensures) ∙ not-true _ (c .if1 .taken)))
-
-from-to-requires-2 : tie.Need-from-to-requires-2
-from-to-requires-2 c κs = search needs
+unfolding numberQuestions
+returns c = sym (asked-as _ _ _ (c .enum-told .given .1) ∙ firstNo-none)
 
 returns-2 : tie.Need-returns-2
-unfolding orderNumbers
-returns-2 c = sym (firstNo-yes _ _ (sym (c .before .before .before .from-to .ensures) ∙ not-false _ (c .before .before .if1 .left)) ∙ firstNo-no _ _ (sym (c .before .from-to2 .ensures) ∙ not-true _ (c .if2 .taken)))
-
-degree-fits-requires : tie.Need-degree-fits-requires
-degree-fits-requires c κs = search needs
+unfolding numberQuestions orderIn
+returns-2 c = c .ask-threshold .ensures ∙ sym (asked-as _ _ _ (c .before .enum-told2 .given .1))
 
 returns-3 : tie.Need-returns-3
-unfolding orderNumbers
-returns-3 c = sym (firstNo-yes _ _ (sym (c .before .before .before .before .before .from-to .ensures) ∙ not-false _ (c .before .before .before .before .if1 .left)) ∙ firstNo-yes _ _ (sym (c .before .before .before .from-to2 .ensures) ∙ not-false _ (c .before .before .if2 .left)) ∙ firstNo-no _ _ (sym (c .before .degree-fits .ensures) ∙ not-true _ (c .if3 .taken)))
-
-from-to-requires-3 : tie.Need-from-to-requires-3
-from-to-requires-3 c κs = search needs
-
-returns-4 : tie.Need-returns-4
-unfolding orderNumbers
-returns-4 c = sym (firstNo-yes _ _ (sym (c .before .before .before .before .before .before .before .from-to .ensures) ∙ not-false _ (c .before .before .before .before .before .before .if1 .left)) ∙ firstNo-yes _ _ (sym (c .before .before .before .before .before .from-to2 .ensures) ∙ not-false _ (c .before .before .before .before .if2 .left)) ∙ firstNo-yes _ _ (sym (c .before .before .before .degree-fits .ensures) ∙ not-false _ (c .before .before .if3 .left)) ∙ firstNo-no _ _ (sym (c .before .from-to3 .ensures) ∙ not-true _ (c .if4 .taken)))
-
-returns-5 : tie.Need-returns-5
-unfolding orderNumbers
-returns-5 c = sym (firstNo-yes _ _ (sym (c .before .before .before .before .before .before .before .from-to .ensures) ∙ not-false _ (c .before .before .before .before .before .before .if1 .left)) ∙ firstNo-yes _ _ (sym (c .before .before .before .before .before .from-to2 .ensures) ∙ not-false _ (c .before .before .before .before .if2 .left)) ∙ firstNo-yes _ _ (sym (c .before .before .before .degree-fits .ensures) ∙ not-false _ (c .before .before .if3 .left)) ∙ firstNo-yes _ _ (sym (c .before .from-to3 .ensures) ∙ not-false _ (c .if4 .left)) ∙ firstNo-none)
+unfolding numberQuestions orderIn
+returns-3 c = c .ask-degree .ensures ∙ sym (asked-as _ _ _ (c .before .enum-told3 .given .1))
 
 pub ask-numbers-spec : {M : Type 1} → statement M
 ask-numbers-spec =
     tie.close
     (tie.spec
-    from-to-requires
+    enum-told
+    enum-told-2
+    ask-threshold-requires
+    enum-told-3
+    ask-degree-requires
     returns
-    from-to-requires-2
     returns-2
-    degree-fits-requires
-    returns-3
-    from-to-requires-3
-    returns-4
-    returns-5)
+    returns-3)

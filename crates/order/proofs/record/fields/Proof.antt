@@ -1,6 +1,6 @@
 -- Each field at its place.
 -- Assumes nothing.
-use Rattle.order.specs.Answers.{fieldsOf}
+use Rattle.order.specs.Model.Fields.{fieldsOf}
 use borrow.Author.Needs.{needs}
 use Rattle.order.proofs.record.fields.Statement.{statement}
 use Rattle.order.proofs.record.fields.Tie as tie

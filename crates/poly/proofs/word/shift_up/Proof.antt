@@ -19,10 +19,16 @@ shr-t6 : tie.Need-shr-t6
 shr-t6 c = search needs
 
 add-t7 : tie.Need-add-t7
-add-t7 c = let a = c .before .before .before .args in record { fits = up-high-fits (a .w .high) (a .w .low) (a .m) (omega arith) (c .before .before .before .pre .2) }
+add-t7 c =
+    let s = c .before .before .before in
+    let a = s .args in
+    record { fits = up-high-fits (a .w .high) (a .w .low) (a .m) (omega arith) (s .pre .fits) }
 
 returns : tie.Need-returns
-returns c = let a = c .before .before .before .args in up-halves (a .w .high) (a .w .low) (a .m) (omega arith) (c .before .before .before .pre .2)
+returns c =
+    let s = c .before .before .before in
+    let a = s .args in
+    up-halves (a .w .high) (a .w .low) (a .m) (omega arith) (s .pre .fits)
 
 pub shift-up-spec : {M : Type 1} → statement M
 shift-up-spec = tie.close (tie.spec shl-t3 shl-t4 sub-t5 shr-t6 add-t7 returns)

@@ -34,7 +34,14 @@ same-length c = search needs
 
 returns : tie.Need-returns
 unfolding wA countLine
-returns c = let s = c .before .before .before .before .before .before .before .before .before .before .before in put-most 51 (c .before .before .put-line .ensures) (count-short (s .args .plain .now) (s .args .undetected .now) (s .args .w) (s .pre .0) (c .before .before .before .before .before .before .before .before .before .shared-slice-known .given (s .args .w) .fits) (c .before .before .before .before .before .before .before .before .shared-slice-known2 .given (s .args .w) .fits))
+returns c =
+    let lists = c .before .before .before .before .before .before .before .before in
+    let start = lists .before .before .before in
+    let a = start .args in
+    let plain = lists .before .shared-slice-known .given (a .w) .fits in
+    let undetected = lists .shared-slice-known2 .given (a .w) .fits in
+    put-most 51 (c .before .before .put-line .ensures)
+    (count-short (a .plain .now) (a .undetected .now) (a .w) (omega arith) plain undetected)
 
 pub put-count-spec : {M : Type 1} → statement M
 put-count-spec =

@@ -6,14 +6,15 @@ use mathlib.Core.Path.{_≡_, sym, ap}
 use mathlib.Core.List.{flatMap}
 use Rattle.lists.specs.Lists.{upFrom}
 use Rattle.text.specs.Text.{countLine}
-use Rattle.text.specs.Steps.{Put}
+use Rattle.text.specs.Model.Steps.{Put}
 use Rattle.text.proofs.Puts.{put-none, put-as, put-most, joined, put-same-length}
 use Rattle.text.proofs.Pieces.{range-more}
 use Rattle.text.proofs.lines.put_counts.Statement.{statement}
 use Rattle.text.proofs.lines.put_counts.Tie as tie
 
 abbrev Inv-loop : tie.InvT-loop
-Inv-loop buffer₀ at d plain undetected end₀ w₀ buffer end w = (w ≤ d) × Put (51 * w) buffer₀ at (flatMap (countLine plain undetected) (upFrom 0 w)) buffer end
+Inv-loop buffer₀ at d plain undetected end₀ w₀ buffer end w =
+    (w ≤ d) × Put (51 * w) buffer₀ at (flatMap (countLine plain undetected) (upFrom 0 w)) buffer end
 
 abbrev μ-loop : tie.MeasureT-loop
 μ-loop buffer₀ at d plain undetected end₀ w₀ buffer end w = d - w
@@ -23,7 +24,13 @@ unfolding flatMap upFrom
 loop-holds c = let a = c .before .before .before .args in (zero-le, put-none (a .buffer .now) (a .at))
 
 put-count-requires : tie.Need-put-count-requires Inv-loop μ-loop
-put-count-requires c κs = let same = put-same-length (c .before .before .loop .inv .1) in omega arith
+put-count-requires c κs =
+    let same = put-same-length (c .before .before .loop .inv .1) in
+    let counts = c .before .before .before .before .before .before .pre .counts in
+    record {
+      counts = record { at-most-64 = omega arith; plain-counts = omega arith; undetected-counts = omega arith };
+      room = omega arith;
+    }
 
 add-w : tie.Need-add-w Inv-loop μ-loop
 add-w c = omega arith
@@ -32,13 +39,24 @@ loop-less : tie.Need-loop-less Inv-loop μ-loop
 loop-less c = omega arith
 
 loop-again : tie.Need-loop-again Inv-loop μ-loop
-loop-again c = let a = c .before .before .before .before .before .before .before .before .before .args in let l = c .before .before .before .before .before .loop in let more = joined (l .inv .1) (c .before .before .put-count .ensures) in let within = put-most (51 * (l .w + 1)) more (omega (arith, more .short)) in (omega arith, put-as (sym (range-more (countLine (a .plain .now) (a .undetected .now)) (l .w))) within)
+loop-again c =
+    let top = c .before .before .before .before .before in
+    let a = top .before .before .before .before .args in
+    let l = top .loop in
+    let more = joined (l .inv .1) (c .before .before .put-count .ensures) in
+    let within = put-most (51 * (l .w + 1)) more (omega (arith, more .short)) in
+    (omega arith, put-as (sym (range-more (countLine (a .plain .now) (a .undetected .now)) (l .w))) within)
 
 same-length : tie.Need-same-length Inv-loop μ-loop
 same-length c = put-same-length (c .before .loop .inv .1)
 
 returns : tie.Need-returns Inv-loop μ-loop
-returns c = let a = c .before .before .before .before .before .args in let l = c .before .loop in let done : l .w ≡ a .d = omega arith in let all = put-as (ap (λ k. flatMap (countLine (a .plain .now) (a .undetected .now)) (upFrom 0 k)) done) (l .inv .1) in put-most (51 * a .d) all (omega (arith, all .short))
+returns c =
+    let a = c .before .before .before .before .before .args in
+    let l = c .before .loop in
+    let done : l .w ≡ a .d = omega arith in
+    let all = put-as (ap (λ k. flatMap (countLine (a .plain .now) (a .undetected .now)) (upFrom 0 k)) done) (l .inv .1) in
+    put-most (51 * a .d) all (omega (arith, all .short))
 
 pub put-counts-spec : {M : Type 1} → statement M
 put-counts-spec =

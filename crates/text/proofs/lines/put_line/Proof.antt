@@ -13,7 +13,7 @@ put-bytes-requires : tie.Need-put-bytes-requires
 put-bytes-requires c κs = omega arith
 
 put-numbers-requires : tie.Need-put-numbers-requires
-put-numbers-requires c κs = omega arith
+put-numbers-requires c κs = record { not-below = omega arith; at-most-16 = omega arith; room = omega arith }
 
 slice-write-buffer : tie.Need-slice-write-buffer
 slice-write-buffer c = omega arith
@@ -22,10 +22,20 @@ add-result : tie.Need-add-result
 add-result c = omega arith
 
 same-length : tie.Need-same-length
-same-length c = let p = c .before .before .before .before .before .before .put-bytes .ensures in let q = c .before .before .put-numbers .ensures in simp length-set (put-same-length q ∙ put-same-length p)
+same-length c =
+    let second = c .before .before in
+    let first = second .before .before .before .before in
+    simp length-set (put-same-length (second .put-numbers .ensures) ∙ put-same-length (first .put-bytes .ensures))
 
 returns : tie.Need-returns
-returns c = let a = c .before .before .before .before .before .before .before .before .before .before .before .args in let p = c .before .before .before .before .before .before .put-bytes .ensures in let q = c .before .before .put-numbers .ensures in let all = joined p (joined q (put-byte (c .before .before .put-numbers .last .0) (c .before .before .put-numbers .result) 10 refl)) in let within = put-most (length (a .first .now) + 23 * length (a .numbers .now) + 1) all (omega (arith, all .short)) in put-as (sym (decimal-line (a .first .now) (a .numbers .now))) within
+returns c =
+    let second = c .before .before in
+    let first = second .before .before .before .before in
+    let a = first .before .before .before .before .before .args in
+    let last = second .put-numbers in
+    let all = joined (first .put-bytes .ensures) (joined (last .ensures) (put-byte (last .last .0) (last .result) 10 refl)) in
+    let within = put-most (length (a .first .now) + 23 * length (a .numbers .now) + 1) all (omega (arith, all .short)) in
+    put-as (sym (decimal-line (a .first .now) (a .numbers .now))) within
 
 pub put-line-spec : {M : Type 1} → statement M
 put-line-spec =

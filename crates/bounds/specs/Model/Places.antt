@@ -1,0 +1,92 @@
+-- The places of the work area while events are joined to chains: where each table begins, and how many numbers it has (a model: what the code computes).
+-- Assumes nothing.
+use Prim.Native.Nat.{ℕ, _+_}
+use mathlib.Core.List.{List, [], _∷_}
+
+-- ---- how much there is at most
+
+-- N, and so a length and the steps of a chain
+abbrev pub mostSteps : ℕ
+mostSteps = 128
+
+-- the lengths, 0 among them
+abbrev pub lengthCount : ℕ
+lengthCount = mostSteps + 1
+
+abbrev pub stateCount : ℕ
+stateCount = 256
+
+-- more than any chain may weigh
+abbrev pub tooHeavy : ℕ
+tooHeavy = 255
+
+-- ---- where each table begins
+
+-- the place in the event table of the first event of each state or above
+abbrev pub firstPlace : ℕ
+firstPlace = 0
+
+-- while events are noted: the place after the last one of each state
+abbrev pub stateEndPlace : ℕ
+stateEndPlace = 512
+
+-- a weight that no event of each length, of the state at hand, is below; `tooHeavy` at most
+abbrev pub leastPlace : ℕ
+leastPlace = 1024
+
+-- while events are noted: the place after the last one of each length
+abbrev pub lengthEndPlace : ℕ
+lengthEndPlace = 1280
+
+-- the place of the first event of each length or above, of the state at hand
+abbrev pub startPlace : ℕ
+startPlace = 1536
+
+-- a weight that no chain of each number of steps, of the state at hand, is below; `tooHeavy` at most
+abbrev pub fillPlace : ℕ
+fillPlace = 1792
+
+-- N
+abbrev pub bitsPlace : ℕ
+bitsPlace = 2048
+
+-- the place after the last event of the state at hand
+abbrev pub endPlace : ℕ
+endPlace = 2049
+
+-- the numbers that the tables take
+abbrev pub areaSize : ℕ
+areaSize = endPlace + 1
+
+-- ---- the tables as regions
+
+pub record Region : Type 0 where
+  pub start : ℕ
+  pub size : ℕ
+
+abbrev pub firsts : Region
+firsts = record { start = firstPlace; size = stateCount + 1 }
+
+abbrev pub stateEnds : Region
+stateEnds = record { start = stateEndPlace; size = stateCount }
+
+abbrev pub leasts : Region
+leasts = record { start = leastPlace; size = lengthCount }
+
+abbrev pub lengthEnds : Region
+lengthEnds = record { start = lengthEndPlace; size = lengthCount }
+
+abbrev pub starts : Region
+starts = record { start = startPlace; size = lengthCount + 1 }
+
+abbrev pub fills : Region
+fills = record { start = fillPlace; size = lengthCount }
+
+abbrev pub bitsCell : Region
+bitsCell = record { start = bitsPlace; size = 1 }
+
+abbrev pub endCell : Region
+endCell = record { start = endPlace; size = 1 }
+
+abbrev pub regions : List Region
+regions = firsts ∷ stateEnds ∷ leasts ∷ lengthEnds ∷ starts ∷ fills ∷ bitsCell ∷ endCell ∷ []

@@ -1,0 +1,65 @@
+-- What each call of `list_state` asks, and what they leave in the end.
+-- Assumes nothing.
+use Prim.Native.Nat.{ℕ, _+_, _-_}
+use native.Mathlib.Omega.{arith}
+use mathlib.Core.Path.{_≡_, sym, ap, ap₂, _∙_, subst}
+use mathlib.Core.List.{List}
+use Rattle.events.specs.declared.Event.{Event}
+use Rattle.rotations.specs.Model.Put.{puts}
+use Rattle.bounds.specs.declared.Chain.{Chain}
+use Rattle.bounds.specs.Model.Tables.{firstOf, bitsAt, surveyed, opened, closed, Small}
+use Rattle.chains.specs.Model.Chaining.{atState, found, unbegun, stateListed, Noted, ToChain, ToListState}
+use Rattle.chains.proofs.Unfinished.{unbegun-unfinished}
+use Rattle.chains.proofs.States.{state-noted, state-small, state-ready, bits-atState, joins-at-state}
+
+-- where the state's events begin, and where they end
+pub record Bounds (work : List ℕ) (i : ℕ) : Type 0 where
+  pub from : ℕ
+  pub to : ℕ
+  pub is-from : from ≡ firstOf work i
+  pub is-to : to ≡ firstOf work (i + 1)
+
+module _ {table : List Event} {work paths : List ℕ} {at i w : ℕ} (ask : ToListState table work paths at i w) where
+  module _ (b : Bounds work i) where
+    pub asks-survey : Noted table (b .from) (b .to)
+    asks-survey = rw (b .is-from, b .is-to) (state-noted (ask .indexed) i (ask .state-small))
+
+    module _ {us vs : List ℕ} (is-us : us ≡ opened (b .to) work)
+        (is-vs : vs ≡ surveyed table (b .to - b .from) (b .from) us) where
+      noted-is : vs ≡ surveyed table (firstOf work (i + 1) - firstOf work i) (firstOf work i) (opened (firstOf work (i + 1)) work)
+      noted-is =
+          is-vs ∙ ap₂ (λ (x : ℕ) (zs : List ℕ). surveyed table (b .to - x) x zs) (b .is-from) is-us
+          ∙ ap (λ (x : ℕ). surveyed table (x - firstOf work i) (firstOf work i) (opened x work)) (b .is-to)
+
+      pub asks-close : Small vs
+      asks-close = subst Small (sym noted-is) (state-small (ask .indexed) i (ask .state-small))
+
+      pub closed-is-state : {ws : List ℕ} → ws ≡ closed (b .from) vs → ws ≡ atState table i work
+      unfolding atState
+      closed-is-state is = is ∙ ap₂ closed (b .is-from) noted-is
+
+  module _ {ws : List ℕ} (is-ws : ws ≡ atState table i work) where
+    pub asks-unbegun : Small ws
+    asks-unbegun = subst Small (sym is-ws) (state-ready (ask .indexed) i (ask .state-small) .small)
+
+    bits-are : bitsAt ws ≡ bitsAt work
+    bits-are = ap bitsAt is-ws ∙ bits-atState (ask .indexed) i (ask .state-small)
+
+    module _ {begun : Chain} (is-begun : begun ≡ unbegun (bitsAt ws) w) where
+      pub asks-chain : ToChain table ws paths at begun
+      asks-chain =
+          let same = bits-are in
+          let some = ask .indexed .some-bits in
+          let light = ask .light in
+          record {
+            joins = rw is-ws (joins-at-state (ask .indexed) i (ask .state-small));
+            unfinished = rw is-begun (unbegun-unfinished (bitsAt ws) w (omega (arith, same, some)) (omega (arith, light)));
+            near = ask .near;
+          }
+
+      pub listed-state : {ls : List ℕ} {r : ℕ} → (ls, r) ≡ puts (found table ws begun) (paths, at)
+          → (ws, (ls, r)) ≡ stateListed table w i work (paths, at)
+      listed-state e =
+          let whole : begun ≡ unbegun (bitsAt work) w = is-begun ∙ ap (λ (N : ℕ). unbegun N w) bits-are in
+          ap₂ (λ (x : List ℕ) (y : List ℕ × ℕ). (x, y)) is-ws
+          (e ∙ ap₂ (λ (zs : List ℕ) (y : Chain). puts (found table zs y) (paths, at)) is-ws whole)

@@ -1,0 +1,10 @@
+pub mod Halving
+pub mod Ways
+pub mod Earlier
+pub mod Back
+pub mod Ready
+pub mod Backward
+pub mod Turns
+pub mod Nodes
+pub mod Appends
+pub mod Plains

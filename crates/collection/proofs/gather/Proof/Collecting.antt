@@ -1,0 +1,279 @@
+-- The collection as it goes: what stands before turn k (`Standing`), that it stands before the first turn and after each, and what the call answers at
+-- the end.
+-- Assumes nothing.
+use Prim.Native.Nat.{ℕ, suc, _+_, _-_, _*_, _/_, _%_, _^_, _≤_, _<_}
+use native.Mathlib.Nat.{mod-lt, div-lt-iff-lt-mul, div-add-mod', mod-eq-of-lt, suc-mul, mul-mod-left}
+use native.Mathlib.Decide.{ℕ-discrete, decLe}
+use native.Mathlib.Omega.{arith}
+use mathlib.Core.Path.{_≡_, sym, ap, ap₂, _∙_, subst}
+use mathlib.Core.Logic.{_≢_}
+use mathlib.Core.Bool.{not}
+use mathlib.Core.List.{List, _++_, map}
+use lib.Arith.{digits-div}
+use lib.Dec.{T, leb, leb→le, le→leb, not-T}
+use lib.Pow.{pow-mono}
+use lib.ListN.{length, replicate, length-replicate, length-map}
+use Rattle.lists.specs.Lists.{padded, cleared}
+use Rattle.lists.proofs.Choices.{cond-true, cond-false}
+use Rattle.order.specs.Order.{Order}
+use Rattle.order.specs.Questions.{workSize}
+use Rattle.order.specs.Answer.{Answer, accepted, refused}
+use Rattle.order.specs.Model.Accepted.{Accepted}
+use Rattle.events.specs.declared.Event.{Event}
+use Rattle.events.specs.Events.{entry, events, noEvent, eventTable}
+use Rattle.needed.specs.Model.Tables.{rowWords, tablesEnd, lengthAt, prepared, turned, Tables}
+use Rattle.collection.specs.declared.Node.{Node}
+use Rattle.collection.specs.declared.Collected.{Collected}
+use Rattle.collection.specs.Model.Backward.{found, appends, first, Walkable, Descent}
+use Rattle.collection.specs.Calls.{EventTables, eventTables, collectedAs, collected}
+use Rattle.needed.proofs.Places.{tables-inside}
+use Rattle.needed.proofs.Rows.{Filled}
+use Rattle.collection.proofs.Ready.{Ready, ready-tables}
+use Rattle.collection.proofs.Backward.{found-is}
+use Rattle.collection.proofs.Turns.{Turned, turn-ready, length-turned, length-prepared, prepared-ready, turnEvents, turnsFrom, turns-more, turns-none, all-turns}
+use Rattle.collection.proofs.Nodes.{first-node}
+use Rattle.collection.proofs.Appends.{Kept, appends-none, appends-append, appends-kept, all-fit, all-past}
+
+-- ---- turns and their states
+
+-- the state stays until the last length
+same-state : (k N : ℕ) → 1 ≤ N → (k + 1) % N ≢ 0 → (k + 1) / N ≡ k / N
+same-state k N pos n =
+    let rem : k % N < N = mod-lt k pos in
+    let parts : k / N * N + (k % N + 1) ≡ k + 1 = moved (k / N * N) (k % N) k (div-add-mod' k N) in
+    elim (ℕ-discrete (k % N + 1) N) [
+      | yes e ↦ absurd (n (sym (ap (λ (x : ℕ). x % N) (parts-full (k / N) e parts)) ∙ whole (k / N)))
+      | no ne ↦ ap (λ (x : ℕ). x / N) (sym parts) ∙ digits-div (k / N) (omega arith)
+    ]
+  where
+    moved : (x y z : ℕ) → x + y ≡ z → x + (y + 1) ≡ z + 1
+    moved x y z e = omega arith
+
+    parts-full : (q : ℕ) → k % N + 1 ≡ N → q * N + (k % N + 1) ≡ k + 1 → suc q * N ≡ k + 1
+    parts-full q e p = suc-mul q N ∙ ap (λ (x : ℕ). q * N + x) (sym e) ∙ p
+
+    whole : (q : ℕ) → suc q * N % N ≡ 0
+    whole q = mul-mod-left (suc q) N
+
+-- an accepted order, and what is lent: how long the two are
+pub record Job : Type 0 where
+  pub order : Order
+  pub nt : ℕ
+  pub nw : ℕ
+  pub acc : Accepted order
+  pub enough : workSize ≤ nw
+
+module _ (j : Job) where
+  abbrev order : Order
+  order = j .order
+
+  abbrev gs : List ℕ
+  gs = j .order .generators
+
+  abbrev v : ℕ
+  v = j .order .v
+
+  abbrev N : ℕ
+  N = j .order .N
+
+  abbrev d : ℕ
+  d = j .order .d
+
+  abbrev nt : ℕ
+  nt = j .nt
+
+  abbrev nw : ℕ
+  nw = j .nw
+
+  abbrev acc : Accepted order
+  acc = j .acc
+
+  abbrev pub words : ℕ
+  words = (2 ^ v + 7) / 8
+
+  abbrev pub last : ℕ
+  last = 2 ^ v * N
+
+  -- all events, and the table that they are to be listed in
+  abbrev pub whole : List Event × ℕ
+  whole = appends (map entry (events order)) (replicate nt noEvent, 0)
+
+  states-few : 2 ^ v ≤ 256
+  states-few = pow-mono (acc .code .small-memory)
+
+  pub some-length : 1 ≤ N
+  some-length = let a = acc .code .some-memory in let b = acc .code .long-enough in omega arith
+
+  pub words-few : words ≤ rowWords
+  words-few = let few = states-few in omega arith
+
+  covers : 2 ^ v ≤ 8 * words
+  covers = omega arith
+
+  pub record Standing (k at : ℕ) (zs : List Event) (us : List ℕ) : Type 0 where
+    pub at-most : k ≤ last
+    pub kept : Kept nt (zs, at)
+    pub work-size : length us ≡ nw
+    pub ready : Ready gs v d us
+    pub filled : k % N ≢ 0 → Filled (k / N) words N us
+    pub rest : appends (turnsFrom order (last - k) k) (zs, at) ≡ whole
+
+  pub standing-first : (work : List ℕ) → length work ≡ nw → Standing 0 0 (replicate nt noEvent) (prepared gs v d work)
+  standing-first work size =
+      record {
+        at-most = omega arith;
+        kept = record { size = length-replicate nt noEvent; near = omega arith };
+        work-size = length-prepared gs v d work ∙ size;
+        ready = prepared-ready gs v d work (subst (λ (n : ℕ). tablesEnd ≤ n) (sym size) (tables-inside (j .enough)));
+        filled = λ n. absurd (n (mod-eq-of-lt some-length));
+        rest = ap (λ (es : List Event). appends es (replicate nt noEvent, 0)) (ap (λ (n : ℕ). turnsFrom order n 0) (all-left last) ∙ all-turns order);
+      }
+    where
+      all-left : (x : ℕ) → x - 0 ≡ x
+      all-left x = omega arith
+
+  module _ (k at : ℕ) (zs : List Event) (us : List ℕ) (s : Standing k at zs us) where
+    pub tables-before : Tables us
+    tables-before = ready-tables gs v d us (acc .code .few-generators) (acc .code .small-memory) (s .ready)
+
+    abbrev pub next-work : List ℕ
+    next-work = turned words N k us
+
+    abbrev pub next-table : List Event × ℕ
+    next-table = appends (found next-work (first N k)) (zs, at)
+
+    pub work-turned : length next-work ≡ nw
+    work-turned = length-turned words N k us ∙ s .work-size
+
+    turned-well : Turned gs v d words N k next-work
+    turned-well = turn-ready gs v d words N k us (acc .code .at-most-128) words-few (acc .code .small-memory) (s .ready) (s .filled)
+
+    pub tables-turned : Tables next-work
+    tables-turned = ready-tables gs v d next-work (acc .code .few-generators) (acc .code .small-memory) (turned-well .ready)
+
+    rem : k % N < N
+    rem = mod-lt k some-length
+
+    pub length-short : lengthAt next-work ≤ 128
+    length-short = let is = turned-well .length-is in let r = rem in let most = acc .code .at-most-128 in omega arith
+
+    module _ (less : k < last) where
+      state-fits : k / N < 2 ^ v
+      state-fits = div-lt-iff-lt-mul some-length .1 less
+
+      pub node-first : Walkable (first N k)
+      node-first = let few = states-few in let state = state-fits in first-node N k some-length (acc .code .at-most-128) (omega arith) rem
+
+      met-here : found next-work (first N k) ≡ turnEvents order k
+      unfolding turnEvents
+      met-here =
+          let r = rem in
+          found-is order next-work words k (turned-well .ready) (turned-well .filled) (acc .code .some-memory) (acc .code .small-memory) covers state-fits (omega arith)
+          (acc .threshold .at-most-64) (acc .code .at-most-128) (turned-well .length-is)
+
+      pub standing-next : Standing (k + 1) (next-table .1) (next-table .0) next-work
+      standing-next = record {
+        at-most = omega arith;
+        kept = appends-kept (found next-work (first N k)) nt (zs, at) (s .kept);
+        work-size = work-turned;
+        ready = turned-well .ready;
+        filled = λ n. subst (λ (i : ℕ). Filled i words N next-work) (sym (same-state k N some-length n)) (turned-well .filled);
+        rest =
+            ap (λ (es : List Event). appends (turnsFrom order (last - (k + 1)) (k + 1)) (appends es (zs, at))) met-here
+            ∙ appends-append (turnEvents order k) (turnsFrom order (last - (k + 1)) (k + 1)) (zs, at)
+            ∙ ap (λ (es : List Event). appends es (zs, at)) (ap (λ (j : ℕ). turnEvents order k ++ turnsFrom order (last - (k + 1)) j) one-on ∙ sym (turns-more order (last - (k + 1)) k) ∙ ap (λ (n : ℕ). turnsFrom order n k) one-left)
+            ∙ s .rest;
+      }
+        where
+          one-on : k + 1 ≡ suc k
+          one-on = omega arith
+
+          one-left : suc (last - (k + 1)) ≡ last - k
+          one-left = omega arith
+
+    pub standing-last : last ≤ k → (zs, at) ≡ whole
+    standing-last over = appends-none (zs, at) ∙ ap (λ (es : List Event). appends es (zs, at)) (sym (turns-none order k) ∙ ap (λ (n : ℕ). turnsFrom order n k) none) ∙ s .rest
+      where
+        none : 0 ≡ last - k
+        none = omega arith
+
+  -- ---- the stages of the loop: turn k, at the position `at`, with the table and the work area
+
+  pub record Stage : Type 0 where
+    pub k : ℕ
+    pub at : ℕ
+    pub zs : List Event
+    pub us : List ℕ
+    pub k-fits : k < 2 ^ 64
+    pub stands : Standing k at zs us
+
+  pub begun : (work : List ℕ) → length work ≡ nw → (zs : List Event) (us : List ℕ) → zs ≡ replicate nt noEvent → us ≡ prepared gs v d work → Standing 0 0 zs us
+  begun work e zs us ez eu =
+      subst (λ (z : List Event). Standing 0 0 z us) (sym ez) (subst (λ (u : List ℕ). Standing 0 0 (replicate nt noEvent) u) (sym eu) (standing-first work e))
+
+  pub tables-at : (x : Stage) → Tables (x .us)
+  tables-at x = tables-before (x .k) (x .at) (x .zs) (x .us) (x .stands)
+
+  pub all-met : (x : Stage) → last ≤ x .k → (x .zs, x .at) ≡ whole
+  all-met x over = standing-last (x .k) (x .at) (x .zs) (x .us) (x .stands) over
+
+  -- a turn, whatever its lists and its node are called
+  module _ (x : Stage) (small : x .k < last) (us′ : List ℕ) (is-us : us′ ≡ turned words N (x .k) (x .us)) (e : Node) (is-e : e ≡ first N (x .k)) where
+    pub descent : Descent us′ (x .zs) (x .at) e
+    descent = record {
+      tables = subst Tables (sym is-us) (tables-turned (x .k) (x .at) (x .zs) (x .us) (x .stands));
+      short = subst (λ (u : List ℕ). lengthAt u ≤ 128) (sym is-us) (length-short (x .k) (x .at) (x .zs) (x .us) (x .stands));
+      walkable = subst Walkable (sym is-e) (node-first (x .k) (x .at) (x .zs) (x .us) (x .stands) small);
+      near = let size = x .stands .kept .size in let near = x .stands .kept .near in omega arith;
+    }
+
+    pub after : (zs′ : List Event) (p : ℕ) → (zs′, p) ≡ appends (found us′ e) (x .zs, x .at) → Standing (x .k + 1) p zs′ us′
+    after zs′ p φ =
+        let is : (zs′, p) ≡ next-table (x .k) (x .at) (x .zs) (x .us) (x .stands) = φ ∙ ap₂ (λ (u : List ℕ) (y : Node). appends (found u y) (x .zs, x .at)) is-us is-e in
+        subst (λ (u : List ℕ). Standing (x .k + 1) p zs′ u) (sym is-us)
+        (subst (λ (s : List Event × ℕ). Standing (x .k + 1) (s .1) (s .0) (next-work (x .k) (x .at) (x .zs) (x .us) (x .stands))) (sym is) (standing-next (x .k) (x .at) (x .zs) (x .us) (x .stands) small))
+
+-- ---- the answer
+
+module _ (o : Order) (table : List Event) (work : List ℕ) (zs : List Event) (at : ℕ) (e : (zs, at) ≡ appends (map entry (events o)) (replicate (length table) noEvent, 0)) where
+  abbrev t : EventTables
+  t = eventTables table work
+
+  abbrev all : List Event
+  all = map entry (events o)
+
+  count-same : length all ≡ length (events o)
+  count-same = length-map (events o) entry
+
+  pub answer-13 : length table < at → _≡_ {A = Answer ℕ × EventTables} (refused 13, eventTables (replicate (length table) noEvent) (replicate (length work) 0)) (collected o t)
+  unfolding collected cleared
+  answer-13 past = sym (cond-false (leb (length (events o)) (length table)) _ _ too-many)
+    where
+      too-many : T (not (leb (length (events o)) (length table)))
+      too-many = not-T (leb (length (events o)) (length table)) (λ t.
+          let fit : length (events o) ≤ length table = leb→le (length (events o)) (length table) t in
+          let same = count-same in
+          let listed = ap (λ (s : List Event × ℕ). s .1) (e ∙ all-fit noEvent (length table) all (omega arith)) in
+          absurd (omega arith))
+
+  pub answer-listed : at ≤ length table → _≡_ {A = Answer ℕ × EventTables} (accepted at, eventTables zs (replicate (length work) 0)) (collected o t)
+  unfolding collected cleared eventTable
+  answer-listed inside =
+      let same = count-same in
+      let fit : length all ≤ length table = fits in
+      let both : _≡_ {A = List Event × ℕ} (zs, at) (padded (length table) noEvent all, length all) = e ∙ all-fit noEvent (length table) all fit in
+      (λ k. (accepted ((ap (λ (s : List Event × ℕ). s .1) both ∙ same) k), eventTables (ap (λ (s : List Event × ℕ). s .0) both k) (replicate (length work) 0)))
+      ∙ sym (cond-true (leb (length (events o)) (length table)) _ _ (le→leb (length (events o)) (length table) (omega arith)))
+    where
+      fits : length all ≤ length table
+      fits = elim (decLe (length all) (length table)) [
+        | yes h ↦ h
+        | no h ↦
+            let past : length table < appends all (replicate (length table) noEvent, 0) .1 = all-past noEvent (length table) all (omega arith) in
+            let is = ap (λ (s : List Event × ℕ). s .1) e in
+            absurd (omega arith)
+      ]
+
+-- an answer and tables that are known
+pub told-as : {r r′ : Collected} {z z′ : List Event} {w w′ : List ℕ} → r ≡ r′ → z ≡ z′ → w ≡ w′ → _≡_ {A = Answer ℕ × EventTables} (collectedAs r, eventTables z w) (collectedAs r′, eventTables z′ w′)
+told-as a b c = λ k. (collectedAs (a k), eventTables (b k) (c k))

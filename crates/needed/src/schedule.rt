@@ -1,0 +1,45 @@
+// The turns of the collection as an order gives them: a length from 1 to N for each of 2^v states.
+ghost use mathlib.Core.Path.{_≡_};
+ghost use Prim.Native.Nat.{_+_, _*_, _/_, _^_, _≤_};
+ghost use lib.ListN.{length};
+ghost use Rattle.order.specs.Answers.{orderIn};
+ghost use Rattle.order.specs.Model.Accepted.{AcceptedCode};
+ghost use Rattle.needed.specs.Model.Tables.{tablesEnd, prepared, turned, Tables};
+use super::tables::prepare;
+use super::tables::turn;
+use order::record::OrderRecord;
+use poly::word::power;
+
+// The work area is prepared for the order.
+pub fn prepare_for(order: OrderRecord, work: &mut [u64])
+    requires { ⌜ AcceptedCode (orderIn order) × (tablesEnd ≤ length (now work)) ⌝ }
+    ensures { λ _. ⌜ now (work .exit) ≡ prepared (orderIn order .generators) (order .v) (order .d) (now (work .entry)) ⌝ }
+{
+    let all = [order.g1, order.g2, order.g3, order.g4];
+    let n = order.n as usize;
+    prepare(&all[..n], work, order.v, order.d);
+}
+
+// How many turns there are.
+pub fn turn_count(order: OrderRecord) -> u64
+    requires { ⌜ AcceptedCode (orderIn order) ⌝ }
+    ensures { λ r. ⌜ r ≡ 2 ^ order .v * order .bits ⌝ }
+{
+    power(order.v) * order.bits
+}
+
+// The words of a row of least weights, eight states to a word.
+fn row_words(v: u64) -> u64
+    requires { ⌜ v ≤ 8 ⌝ }
+    ensures { λ r. ⌜ r ≡ (2 ^ v + 7) / 8 ⌝ }
+{
+    ((1 << v) + 7) / 8
+}
+
+// Turn k: the length, and for a new state its least weights.
+pub fn turn_for(order: OrderRecord, work: &mut [u64], k: u64)
+    requires { ⌜ AcceptedCode (orderIn order) × Tables (now work) ⌝ }
+    ensures { λ _. ⌜ now (work .exit) ≡ turned ((2 ^ order .v + 7) / 8) (order .bits) k (now (work .entry)) ⌝ }
+{
+    turn(work, row_words(order.v), order.bits, k);
+}

@@ -1,0 +1,76 @@
+-- What the parts of the two calls compute (a model): what the listing answered, what is done with the listed paths, and the answer.
+-- Assumes nothing.
+use Prim.Native.Nat.{ℕ, _≤_}
+use mathlib.Core.Path.{_≡_}
+use mathlib.Core.Bool.{cond}
+use mathlib.Core.List.{List}
+use lib.Dec.{eqb}
+use lib.ListN.{length}
+use Rattle.poly.specs.Poly.{HasDegree}
+use Rattle.order.specs.Questions.{workSize}
+use Rattle.order.specs.Order.{Order}
+use Rattle.order.specs.Answer.{Answer, accepted}
+use Rattle.order.specs.Model.Accepted.{AcceptedWhole}
+use Rattle.events.specs.Events.{events}
+use Rattle.paths.specs.Paths.{paths}
+use Rattle.listing.specs.Calls.{unlessTooMany}
+use Rattle.listing.specs.declared.Listed.{Listed}
+use Rattle.listing.specs.declared.Listed.the-variants as L
+use Rattle.undetected.specs.Undetected.{undetectedCounts}
+use Rattle.undetected.specs.Model.Steps.{countedFrom}
+use Rattle.choice.specs.declared.Outcome.{Outcome}
+use Rattle.choice.specs.Choice.{choice}
+use Rattle.choice.specs.Model.Steps.{Chose, ToChoose}
+use Rattle.search.specs.declared.Searched.{Searched}
+use Rattle.search.specs.declared.Searched.the-variants as S
+use Rattle.search.specs.declared.Job.{Job}
+use Rattle.search.specs.declared.Job.the-variants as J
+use Rattle.search.specs.Calls.{Found, found, SearchTables, clearedSearch, filledSearch, chosen}
+
+abbrev pub refusalOf : Listed → ℕ
+refusalOf (L.Paths e k) = 0
+refusalOf (L.Refused k) = k
+
+abbrev pub foundOf : Listed → ℕ → Searched
+foundOf (L.Paths e k) p = S.Found e k p
+foundOf (L.Refused k) p = S.Refused k
+
+-- one is left, or several
+unfoldable pub answerOf : Listed → Outcome → Searched
+answerOf a o = cond (eqb (o .left) 1) (foundOf a (o .polynomial)) (S.Tied (o .left))
+
+-- the listing's part of the answer
+abbrev pub listedOf : Searched → Listed
+listedOf (S.Found e k p) = L.Paths e k
+listedOf (S.Refused k) = L.Refused k
+listedOf (S.Tied left) = L.Refused 15
+
+-- ---- jobs: the best polynomial is chosen, or one polynomial is counted
+
+-- a polynomial that is counted has the order's degree
+unfoldable pub JobFits : Job → ℕ → Type 0
+JobFits J.Choose m = Unit {0}
+JobFits (J.Count p) m = HasDegree m p
+
+-- what a job leaves of the undetected list and answers, once the paths are listed
+unfoldable pub Finished : Job → (m d : ℕ) → Listed → (table plain before after : List ℕ) → Searched → Type 0
+Finished J.Choose m d c table plain before after r = (x : Outcome) × Chose m d table plain before after x × (r ≡ answerOf c x)
+Finished (J.Count p) m d c table plain before after r = (after ≡ countedFrom m p table plain 0 d before) × (r ≡ foundOf c p)
+
+pub record ToFinish (job : Job) (bits m d : ℕ) (table plain undetected : List ℕ) : Type 0 where
+  pub choose : ToChoose bits d m table plain undetected
+  pub job-fits : JobFits job m
+
+unfoldable pub jobDone : Job → Order → SearchTables → Answer Found × SearchTables
+jobDone J.Choose o t = chosen o t (choice o)
+jobDone (J.Count p) o t = (accepted (found (length (events o)) (length (paths o)) p), filledSearch o (undetectedCounts o p) t)
+
+unfoldable pub ran : Job → Order → SearchTables → Answer Found × SearchTables
+ran job o t = unlessTooMany o (length (t .events)) (length (t .paths)) (clearedSearch t) (jobDone job o t)
+
+pub record ToRun (job : Job) (o : Order) (plain undetected work : List ℕ) : Type 0 where
+  pub order : AcceptedWhole o
+  pub plain-room : o .d ≤ length plain
+  pub undetected-room : o .d ≤ length undetected
+  pub wide : workSize ≤ length work
+  pub job-fits : JobFits job (o .m)

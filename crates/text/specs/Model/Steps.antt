@@ -1,0 +1,44 @@
+-- What one step of writing a text asks and leaves (a model): bytes stored from a place on, no more than so many, and the place after them.
+-- Assumes nothing.
+use Prim.Native.Nat.{ℕ, _+_, _≤_}
+use mathlib.Core.Path.{_≡_}
+use mathlib.Core.List.{List, _∷_, flatMap}
+use lib.ListN.{length}
+use lib.Seq.{sets}
+use Rattle.text.specs.Text.{numeral}
+
+pub record Put (most : ℕ) (before : List ℕ) (at : ℕ) (text after : List ℕ) (end : ℕ) : Type 0 where
+  pub stored : after ≡ sets before at text
+  pub next : end ≡ at + length text
+  pub short : length text ≤ most
+
+-- ---- what is asked
+
+-- room for so many bytes of digits, in a base that is not below the least
+pub record ToPut (least base at most size : ℕ) : Type 0 where
+  pub not-below : least ≤ base
+  pub at-most-16 : base ≤ 16
+  pub room : at + most ≤ size
+
+-- both counts of every weight below d
+pub record Counts (d plain undetected : ℕ) : Type 0 where
+  pub at-most-64 : d ≤ 64
+  pub plain-counts : d ≤ plain
+  pub undetected-counts : d ≤ undetected
+
+-- and room for the lines of some of them
+pub record ToPutCounts (d plain undetected at most size : ℕ) : Type 0 where
+  pub counts : Counts d plain undetected
+  pub room : at + most ≤ size
+
+-- a row of n generators: what questions 3, 7 and 10 let the call assume
+pub record RowAccepted (n d plain undetected size : ℕ) : Type 0 where
+  pub at-most-4 : n ≤ 4
+  pub counts : Counts d plain undetected
+  pub bytes : 4096 ≤ size
+
+-- ---- what is put
+
+-- numbers of one base, with a space before each
+unfoldable pub spaced : ℕ → List ℕ → List ℕ
+spaced base numbers = flatMap (λ x. 32 ∷ numeral base x) numbers

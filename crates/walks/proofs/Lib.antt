@@ -1,0 +1,13 @@
+pub mod Walk
+pub mod Again
+pub mod Hold
+pub mod Loans
+pub mod Types
+pub mod Parameters
+pub mod Entries
+pub mod Calls
+pub mod Ends
+pub mod Local
+pub mod Frame
+pub mod Loops
+pub mod Branches

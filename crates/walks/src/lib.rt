@@ -1,0 +1,1 @@
+// This crate holds the frame for walks by hand; it has no code.
