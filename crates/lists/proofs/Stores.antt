@@ -3,11 +3,11 @@
 -- Assumes nothing.
 use mathlib.Core.Path.{_≡_, refl, sym, ap, ap₂, _∙_, subst}
 use mathlib.Core.List.{List, [], _∷_, _++_, map, map-append, append-nil}
-use Prim.Native.Nat.{ℕ, zero, suc, _+_, _-_, _≤_, _<_}
+use Prim.Native.Nat.{ℕ, zero, suc, _+_, _-_, _≤_, _<_, zero-le}
 use native.Mathlib.Nat.{add-zero, zero-add, add-suc, suc-add, sub-zero, zero-sub, suc-sub-suc, le-of-lt}
 use native.Mathlib.Numerals.{add-one}
 use native.Mathlib.Omega.{arith}
-use lib.ListN.{length, getD, take, drop, set, replicate, length-map, length-replicate, drop-of-length-le}
+use lib.ListN.{length, getD, take, drop, set, replicate, length-map, length-replicate, length-set, drop-of-length-le}
 use lib.Seq.{sets, sets-eq, take-suc, take-all, length-take-le}
 use Rattle.lists.specs.Lists.{padded}
 
@@ -45,6 +45,28 @@ module _ {A : Type 0} where
   pub filled-all : (n : ℕ) (v : A) (d : List A) → n ≡ length d → replicate n v ++ drop n d ≡ replicate (length d) v
   filled-all n v d e =
       ap₂ (λ (x y : List A). x ++ y) (ap (λ (k : ℕ). replicate k v) e) (drop-of-length-le d {i = n} (omega arith)) ∙ append-nil (replicate (length d) v)
+
+-- ---- a loop that fills a list with v from the front
+
+-- i of it are filled, and the rest is as it was
+pub record Filled {A : Type 0} (v : A) (before now : List A) (i : ℕ) : Type 0 where
+  pub within : i ≤ length before
+  pub same-size : length now ≡ length before
+  pub stored : now ≡ replicate i v ++ drop i before
+
+module _ {A : Type 0} {v : A} {before : List A} where
+  pub filled-begin : Filled v before before 0
+  filled-begin = record { within = zero-le; same-size = refl; stored = refl }
+
+  pub filled-again : {now : List A} {i : ℕ} → Filled v before now i → i < length before → Filled v before (set now i v) (i + 1)
+  filled-again {now} {i} f h = record {
+    within = omega arith;
+    same-size = length-set now i v ∙ f .same-size;
+    stored = ap (λ (l : List A). set l i v) (f .stored) ∙ filled-more i v before h;
+  }
+
+  pub filled-end : {now : List A} {i : ℕ} → Filled v before now i → length before ≤ i → now ≡ replicate (length before) v
+  filled-end {now} {i} f h = let most = f .within in f .stored ∙ filled-all i v before (omega arith)
 
 -- ---- the images of a list, stored one by one from index at on
 

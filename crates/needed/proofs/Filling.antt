@@ -20,6 +20,15 @@ use Rattle.code.specs.Trellis.{tapped, stepOutput, stepWeight}
 use Rattle.needed.specs.Model.Tables.{rowWords, stepCount, stepsPlace, lengthPlace, thresholdPlace, halfPlace, need, stepAt, halfAt, through, leastTo, packed, rowFrom, rowsFrom, weightsFrom, prepared, turned, Tables, Step}
 use Rattle.needed.proofs.Places.{In, region, rowsRegion, stepsRegion, halfRegion, store-leaves}
 
+-- ---- a loop that fills the work area
+
+-- k of n are stored, what is left to store gives the whole, and the sums are still small
+pub record Underway (k n : ℕ) (before now left whole : List ℕ) : Type 0 where
+  pub within : k ≤ n
+  pub same-size : length now ≡ length before
+  pub tables : Tables now
+  pub gives : left ≡ whole
+
 -- ---- the least weight of one entry
 
 leb-fails : (m n : ℕ) → n < m → T (not (leb m n))

@@ -1,21 +1,27 @@
 -- The invariant: the sum so far, at most the limit.
 -- Assumes nothing.
 use mathlib.Core.Path.{_≡_}
-use Prim.Native.Nat.{_-_, _≤_, zero-le}
+use mathlib.Core.List.{List}
+use Prim.Native.Nat.{ℕ, _-_, _≤_, zero-le}
 use native.Mathlib.Omega.{arith}
 use Rattle.paths.specs.Part.{pathsBefore}
 use Rattle.paths.proofs.Parts.{sum-none, sum-more, sum-past, sum-all}
 use Rattle.paths.proofs.paths_before.Statement.{statement}
 use Rattle.paths.proofs.paths_before.Tie as tie
 
+record Summing (counts : List ℕ) (w limit total k : ℕ) : Type 0 where
+  within : k ≤ w
+  summed : total ≡ pathsBefore counts k
+  small : total ≤ limit
+
 abbrev Inv-loop : tie.InvT-loop
-Inv-loop counts w limit total₀ k₀ total k = (k ≤ w) × (total ≡ pathsBefore counts k) × (total ≤ limit)
+Inv-loop counts w limit total₀ k₀ total k = Summing counts w limit total k
 
 abbrev μ-loop : tie.MeasureT-loop
 μ-loop counts w limit total₀ k₀ total k = w - k
 
 loop-holds : tie.Need-loop-holds Inv-loop μ-loop
-loop-holds c = (zero-le, sum-none _, zero-le)
+loop-holds c = record { within = zero-le; summed = sum-none _; small = zero-le }
 
 mul-c : tie.Need-mul-c Inv-loop μ-loop
 mul-c c = omega (arith, c .before .before .good .0 .1)
@@ -30,7 +36,10 @@ add-result : tie.Need-add-result Inv-loop μ-loop
 add-result c = omega arith
 
 returns : tie.Need-returns Inv-loop μ-loop
-returns c = let l = c .before .before .before .loop in let a = c .before .before .before .before .args in sum-past (a .counts .now) (l .k) (a .w) (l .total) (a .limit) (omega arith) (l .inv .1) (c .if1 .taken) (l .inv .2)
+returns c =
+    let l = c .before .before .before .loop in
+    let a = c .before .before .before .before .args in
+    sum-past (a .counts .now) (l .k) (a .w) (l .total) (a .limit) (omega arith) (l .inv .summed) (c .if1 .taken) (l .inv .small)
 
 add-total : tie.Need-add-total Inv-loop μ-loop
 add-total c = omega arith
@@ -42,10 +51,17 @@ loop-less : tie.Need-loop-less Inv-loop μ-loop
 loop-less c = omega arith
 
 loop-again : tie.Need-loop-again Inv-loop μ-loop
-loop-again c = let l = c .before .before .before .loop in let a = c .before .before .before .before .args in (omega arith, sum-more (a .counts .now) (l .k) (l .total) (a .limit) (l .inv .1) (c .if1 .left) (l .inv .2) .0, sum-more (a .counts .now) (l .k) (l .total) (a .limit) (l .inv .1) (c .if1 .left) (l .inv .2) .1)
+loop-again c =
+    let l = c .before .before .before .loop in
+    let a = c .before .before .before .before .args in
+    let more = sum-more (a .counts .now) (l .k) (l .total) (a .limit) (l .inv .summed) (c .if1 .left) (l .inv .small) in
+    record { within = omega arith; summed = more .0; small = more .1 }
 
 returns-2 : tie.Need-returns-2 Inv-loop μ-loop
-returns-2 c = let l = c .before .loop in let a = c .before .before .args in sum-all (a .counts .now) (l .k) (a .w) (l .total) (a .limit) (omega arith) (l .inv .1) (l .inv .2)
+returns-2 c =
+    let l = c .before .loop in
+    let a = c .before .before .args in
+    sum-all (a .counts .now) (l .k) (a .w) (l .total) (a .limit) (omega arith) (l .inv .summed) (l .inv .small)
 
 pub paths-before-spec : {M : Type 1} → statement M
 paths-before-spec =

@@ -2,21 +2,27 @@
 -- Assumes nothing.
 use native.Mathlib.Omega.{arith}
 use mathlib.Core.Path.{_≡_, refl, _∙_}
-use Prim.Native.Nat.{_-_, _≤_}
+use mathlib.Core.List.{List}
+use Prim.Native.Nat.{ℕ, _-_, _≤_}
 use lib.ListN.{length, length-set}
 use Rattle.needed.specs.Model.Tables.{stepCount, weightsFrom}
 use Rattle.needed.proofs.Filling.{weights-again, weights-end}
 use Rattle.needed.proofs.tables.fill_weights.Statement.{statement}
 use Rattle.needed.proofs.tables.fill_weights.Tie as tie
 
+record Weighing (generators work₀ work : List ℕ) (x : ℕ) : Type 0 where
+  within : x ≤ stepCount
+  same-size : length work ≡ length work₀
+  gives : weightsFrom generators (stepCount - x) x work ≡ weightsFrom generators stepCount 0 work₀
+
 abbrev Inv-loop : tie.InvT-loop
-Inv-loop generators work₀ x₀ work x = (x ≤ stepCount) × ((length work ≡ length work₀) × (weightsFrom generators (stepCount - x) x work ≡ weightsFrom generators stepCount 0 work₀))
+Inv-loop generators work₀ x₀ work x = Weighing generators work₀ work x
 
 abbrev μ-loop : tie.MeasureT-loop
 μ-loop generators work₀ x₀ work x = stepCount - x
 
 loop-holds : tie.Need-loop-holds Inv-loop μ-loop
-loop-holds c = (omega arith, (refl, refl))
+loop-holds c = record { within = omega arith; same-size = refl; gives = refl }
 
 add-at : tie.Need-add-at Inv-loop μ-loop
 add-at c = omega arith
@@ -37,13 +43,19 @@ loop-less : tie.Need-loop-less Inv-loop μ-loop
 loop-less c = omega arith
 
 loop-again : tie.Need-loop-again Inv-loop μ-loop
-loop-again c = let l = c .before .before .loop in (omega arith, (simp length-set (l .inv .1 .0), weights-again _ _ _ _ _ (omega arith) (c .step-weight .ensures) (l .inv .1 .1)))
+loop-again c =
+    let l = c .before .before .loop in
+    record {
+      within = omega arith;
+      same-size = simp length-set (l .inv .same-size);
+      gives = weights-again _ _ _ _ _ (omega arith) (c .step-weight .ensures) (l .inv .gives);
+    }
 
 same-length : tie.Need-same-length Inv-loop μ-loop
-same-length c = c .before .loop .inv .1 .0
+same-length c = c .before .loop .inv .same-size
 
 returns : tie.Need-returns Inv-loop μ-loop
-returns c = let l = c .before .loop in weights-end _ (l .x) _ (omega arith) ∙ l .inv .1 .1
+returns c = let l = c .before .loop in weights-end _ (l .x) _ (omega arith) ∙ l .inv .gives
 
 pub fill-weights-spec : {M : Type 1} → statement M
 fill-weights-spec =

@@ -3,21 +3,27 @@
 use native.Mathlib.Nat.{zero-add}
 use native.Mathlib.Omega.{arith}
 use mathlib.Core.Path.{_≡_}
-use Prim.Native.Nat.{_+_, _-_, _/_, _%_, _≤_}
+use mathlib.Core.List.{List}
+use Prim.Native.Nat.{ℕ, _+_, _-_, _/_, _%_, _≤_}
 use lib.ListN.{length, drop, getD}
 use Rattle.code.specs.Trellis.{stepWeight}
 use Rattle.needed.proofs.Filling.{weight-again, weight-none, ones-fit}
 use Rattle.needed.proofs.tables.step_weight.Statement.{statement}
 use Rattle.needed.proofs.tables.step_weight.Tie as tie
 
+record Summing (generators : List ℕ) (x sum i : ℕ) : Type 0 where
+  within : i ≤ length generators
+  small : sum ≤ i
+  adds : sum + stepWeight (drop i generators) (x / 2) (x % 2) ≡ stepWeight generators (x / 2) (x % 2)
+
 abbrev Inv-loop : tie.InvT-loop
-Inv-loop generators x sum₀ i₀ sum i = (i ≤ length generators) × ((sum ≤ i) × (sum + stepWeight (drop i generators) (x / 2) (x % 2) ≡ stepWeight generators (x / 2) (x % 2)))
+Inv-loop generators x sum₀ i₀ sum i = Summing generators x sum i
 
 abbrev μ-loop : tie.MeasureT-loop
 μ-loop generators x sum₀ i₀ sum i = length generators - i
 
 loop-holds : tie.Need-loop-holds Inv-loop μ-loop
-loop-holds c = (omega arith, (omega arith, zero-add _))
+loop-holds c = record { within = omega arith; small = omega arith; adds = zero-add _ }
 
 mul-sum : tie.Need-mul-sum Inv-loop μ-loop
 mul-sum c = omega arith
@@ -38,10 +44,10 @@ loop-less : tie.Need-loop-less Inv-loop μ-loop
 loop-less c = omega arith
 
 loop-again : tie.Need-loop-again Inv-loop μ-loop
-loop-again c = let l = c .before .before .loop in (omega arith, (omega arith, weight-again _ _ _ _ (omega arith) (l .inv .1 .1)))
+loop-again c = record { within = omega arith; small = omega arith; adds = weight-again _ _ _ _ (omega arith) (c .before .before .loop .inv .adds) }
 
 returns : tie.Need-returns Inv-loop μ-loop
-returns c = weight-none _ _ (c .before .loop .i) _ (omega arith) (c .before .loop .inv .1 .1)
+returns c = weight-none _ _ (c .before .loop .i) _ (omega arith) (c .before .loop .inv .adds)
 
 pub step-weight-spec : {M : Type 1} → statement M
 step-weight-spec =
