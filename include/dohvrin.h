@@ -9,6 +9,7 @@
 
   A code has n generators (2 to 4) and the memory v (1 to 8): a generator has
   v+1 bits, bit 0 taps the input of this step, bit v the oldest one remembered.
+  No polynomial but 1 divides all generators.
 
   A word u has N bits (v to 128; from 1 where a call takes no v), and N is the
   parameter `bits`. Bit 0 is the first input. A word is passed in two 64-bit
@@ -82,13 +83,14 @@
   Refusals
   --------
   Every call answers every input. It asks the questions that concern what it
-  takes, in the order of their numbers, and the first no is the refusal; 0
-  says that there was none. Of an order, weigh and encode do not take m and d,
-  collect and list do not take m: there they may be anything. The one exception
-  is row_text, which asks only 3, 7 and 10: a row is printed as it is told, for
-  an order that a call has accepted before. A refused call has no other result:
-  the rest of its answer is 0, and what was lent to it is as it was; after 13
-  and 14, it is 0. Only 15 says more, and leaves more: see dohvrin_search.
+  takes, in the order of the table, where 16 stands after 9, and the first no is
+  the refusal; 0 says that there was none. Of an order, weigh and encode do not
+  take m and d, collect and list do not take m: there they may be anything. The
+  one exception is row_text, which asks only 3, 7 and 10: a row is printed as it
+  is told, for an order that a call has accepted before. A refused call has no
+  other result: the rest of its answer is 0, and what was lent to it is as it
+  was; after 13 and 14, it is 0. Only 15 says more, and leaves more: see
+  dohvrin_search.
 
       no.  question                                                 asked by
        1   Are there 2 bytes, and does the length in them equal
@@ -116,6 +118,7 @@
        8   Is every generator nonzero and below 2^(v+1)?            as 4
        9   Has some generator bit v, and some generator (the same
            one or another) bit 0?                                   as 4
+      16   Is 1 the only polynomial that divides every generator?   as 4
       10   Has the output at least n times N bytes?                 encode
            Has the work area at least 8,192 numbers?                collect list
                                                                     search count
@@ -251,8 +254,8 @@ struct dohvrin_answer dohvrin_test(uint64_t bits, uint64_t m, uint64_t polynomia
 
 /*
   Weighs a word of N bits under the order's code; m and d do not matter.
-  Accepted: value is the weight, 0 to n times N. Refusals: 3, 4, 5, 8, 9, 12
-  (the word is not below 2^N).
+  Accepted: value is the weight, 0 to n times N. Refusals: 3, 4, 5, 8, 9, 16,
+  12 (the word is not below 2^N).
 */
 struct dohvrin_answer dohvrin_weigh(struct dohvrin_order order, uint64_t low, uint64_t high);
 
@@ -261,7 +264,7 @@ struct dohvrin_answer dohvrin_weigh(struct dohvrin_order order, uint64_t low, ui
   Accepted: the answer is 0 and the output holds the codeword, n bits for each
   step from the word's bit 0 on, the first generator first, each bit a byte 0
   or 1; the bytes from n times N on, up to `size`, are 0. The answer is else
-  the number of the refusal, and the output is as it was: 3, 4, 5, 8, 9, 10
+  the number of the refusal, and the output is as it was: 3, 4, 5, 8, 9, 16, 10
   (size is below n times N), 12 (the word is not below 2^N). That the pointer
   has `size` bytes cannot be checked.
 */
@@ -274,10 +277,10 @@ uint64_t dohvrin_encode(struct dohvrin_order order, uint64_t low, uint64_t high,
   has them first, ordered by state, length and input number, its entries after
   them are 0, and the work area is 0 throughout. Refusal 13, there are more
   events than entries: table and work area are 0 throughout. Other refusals: 3,
-  4, 5, 7, 8, 9, 10 (work_numbers is below DOHVRIN_WORK); then table and work
-  area are as they were. What they held before the call does not matter. That
-  the pointers have as many events and numbers as is said, and that table and
-  work area do not overlap, cannot be checked.
+  4, 5, 7, 8, 9, 16, 10 (work_numbers is below DOHVRIN_WORK); then table and
+  work area are as they were. What they held before the call does not matter.
+  That the pointers have as many events and numbers as is said, and that table
+  and work area do not overlap, cannot be checked.
 */
 struct dohvrin_answer dohvrin_collect(struct dohvrin_order order, struct dohvrin_event *events,
                                       size_t event_entries, uint64_t *work,
@@ -294,8 +297,8 @@ struct dohvrin_answer dohvrin_collect(struct dohvrin_order order, struct dohvrin
   dohvrin_collect leaves it, and the work area is 0 throughout. Refusals 13,
   there are more events than entries, and 14, there are more paths than pairs
   of numbers: all four tables are 0 throughout. Other refusals: 3, 4, 5, 7, 8,
-  9, 10 (plain_entries is below d, or work_numbers is below DOHVRIN_WORK); then
-  all four are as they were. What they held before the call does not matter.
+  9, 16, 10 (plain_entries is below d, or work_numbers is below DOHVRIN_WORK);
+  then all four are as they were. What they held before the call does not matter.
   That the pointers have as many entries and numbers as is said, and that none
   of the tables overlaps another, cannot be checked.
 */
@@ -328,10 +331,10 @@ struct dohvrin_part dohvrin_part(const uint64_t *paths, size_t path_numbers,
   accepted call leaves them, and the undetected counts are those that the best
   ones share. Refusals 13, there are more events than entries, and 14, there are
   more paths than pairs of numbers: all five are 0 throughout. Other refusals: 3
-  to 9, 10 (plain_entries or undetected_entries is below d, or work_numbers is
-  below DOHVRIN_WORK); then all five are as they were. What they held before the
-  call does not matter. That the pointers have as many entries and numbers as is
-  said, and that none of the tables overlaps another, cannot be checked.
+  to 9, 16, 10 (plain_entries or undetected_entries is below d, or work_numbers
+  is below DOHVRIN_WORK); then all five are as they were. What they held before
+  the call does not matter. That the pointers have as many entries and numbers
+  as is said, and that none of the tables overlaps another, cannot be checked.
 */
 struct dohvrin_row dohvrin_search(struct dohvrin_order order, struct dohvrin_event *events,
                                   size_t event_entries, uint64_t *paths, size_t path_numbers,
@@ -386,8 +389,8 @@ struct dohvrin_answer dohvrin_refusal_text(uint64_t number, uint64_t left, uint8
   Reads an order from a record of `size` bytes: the length of what follows it
   in 2 bytes, the higher first; version 1; n, v, N, m and d, a byte each; n
   generators of 2 bytes, the higher first. Accepted: the order, in which the
-  calls above find nothing to refuse. Refusals: 1 to 9, in their order. The bytes are only
-  read; that the pointer has `size` of them cannot be checked.
+  calls above find nothing to refuse. Refusals: 1 to 9 and 16, in this order. The
+  bytes are only read; that the pointer has `size` of them cannot be checked.
 */
 struct dohvrin_order_answer dohvrin_read_order(const uint8_t *bytes, size_t size);
 

@@ -2,7 +2,7 @@
 
 use crate::grouped;
 use crate::turns::{shown, time};
-use dohvrin::{Order, Tables};
+use dohvrin::{Order, Refusal, Tables};
 
 /// Times so many orders as they are drawn, and as many with the greatest length
 /// and degree, and prints the slowest of either kind.
@@ -55,10 +55,15 @@ fn draw(random: &mut Random) -> Order {
     let most = random.within(1, 64);
     let d = random.within(1, most);
     let n = random.within(2, 4) as usize;
-    let mut generators: Vec<u64> = (0..n).map(|_| random.within(1, (2 << v) - 1)).collect();
-    generators[0] |= 1 << v;
-    generators[n - 1] |= 1;
-    Order::new(&generators, v, bits, m, d).expect("a right order")
+    loop {
+        let mut generators: Vec<u64> = (0..n).map(|_| random.within(1, (2 << v) - 1)).collect();
+        generators[0] |= 1 << v;
+        generators[n - 1] |= 1;
+        match Order::new(&generators, v, bits, m, d) {
+            Err(Refusal::SharedFactor) => continue,
+            order => return order.expect("a right order"),
+        }
+    }
 }
 
 /// The same numbers in every run (splitmix64).

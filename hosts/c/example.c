@@ -4,7 +4,7 @@
   collects the events of each and prints the first of them, lists its paths
   (how many there are of each weight, and the heaviest of them), counts those
   that pass the check unseen, and prints the row of the best polynomial.
-  Without arguments it takes the five records below.
+  Without arguments it takes the six records below.
 */
 #include <inttypes.h>
 #include <stdio.h>
@@ -52,6 +52,7 @@ static const char *const records[] = {
     "000A01020104020400010003", /* the same with d = 4 */
     "000A010203460612000B000F", /* n 2, v 3, N 70, m 6, d 18, generators 13, 17 octal */
     "000A01020181020700010003", /* the second with N = 129 */
+    "000A01020104020700030003", /* the second with generators 3, 3, which share x+1 */
 };
 
 /* The bytes of a text of hexadecimal digits, two a byte; 0 where it is none. */

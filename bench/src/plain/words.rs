@@ -90,5 +90,25 @@ fn ask(code: Code) -> Result<(), Refusal> {
     questions::generator_count(code.generators.len())?;
     questions::memory(code.memory)?;
     questions::length(code.memory, code.length)?;
-    questions::generators(code.memory, code.generators)
+    questions::generator_bits(code.memory, code.generators)?;
+    match code.generators.iter().fold(0, |d, &g| gcd(d, g)) {
+        1 => Ok(()),
+        _ => Err(Refusal::No(16)),
+    }
+}
+
+/// The greatest common divisor of two polynomials, by Euclid's scheme.
+fn gcd(mut a: u64, mut b: u64) -> u64 {
+    while b != 0 {
+        (a, b) = (b, rest(a, b));
+    }
+    a
+}
+
+/// What remains of a after division by b, which is not 0.
+fn rest(mut a: u64, b: u64) -> u64 {
+    while a.leading_zeros() <= b.leading_zeros() {
+        a ^= b << (b.leading_zeros() - a.leading_zeros());
+    }
+    a
 }

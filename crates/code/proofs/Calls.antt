@@ -43,22 +43,7 @@ short-word w = record { some-bits = omega arith; at-most-128 = w .code .at-most-
 
 -- the code alone
 of-code : (o : Order) (u : ℕ) → CodeWord o u → CodeWord (codeOf (o .generators) (o .v) (o .N)) u
-of-code o u w =
-    let a = w .code in
-    record {
-      code = record {
-        some-generators = a .some-generators;
-        few-generators = a .few-generators;
-        some-memory = a .some-memory;
-        small-memory = a .small-memory;
-        long-enough = a .long-enough;
-        at-most-128 = a .at-most-128;
-        in-range = a .in-range;
-        one-has-bit-v = a .one-has-bit-v;
-        one-has-bit-0 = a .one-has-bit-0;
-      };
-      fits = w .fits;
-    }
+of-code o u w = record { code = w .code; fits = w .fits }
 
 -- of the first n of four generators
 pub four-code : (r : OrderRecord) (u : ℕ) → CodeWord (orderIn r) u

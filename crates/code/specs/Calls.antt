@@ -1,4 +1,4 @@
--- What the encoder and the weight of a word answer and leave, for every input. Their questions are 3, 4, 5, 8 and 9, then 10 for the encoder's
+-- What the encoder and the weight of a word answer and leave, for every input. Their questions are 3, 4, 5, 8, 9 and 16, then 10 for the encoder's
 -- output, then 12; they take no check degree and no threshold, whatever the order has there.
 -- Assumes nothing.
 use mathlib.Core.List.{List, [], _∷_, _++_}

@@ -174,7 +174,7 @@ fn first_node(bits: u64, k: u64) -> Node
 
 // ---- what a call asks and answers
 
-// Questions 3, 4, 5, 7, 8, 9 and 10: the number of the first that says no, or 0.
+// Questions 3, 4, 5, 7, 8, 9, 16 and 10: the number of the first that says no, or 0.
 fn ask(order: OrderRecord, size: usize) -> u64
     ensures { λ r. ⌜ r ≡ firstNo (collectQuestions (orderIn order) size) ⌝ }
 {

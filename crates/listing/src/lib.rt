@@ -33,7 +33,7 @@ pub enum Listed {
 
 // ---- what a call asks and answers
 
-// Questions 3, 4, 5, 7, 8, 9 and 10: the number of the first that says no, or 0.
+// Questions 3, 4, 5, 7, 8, 9, 16 and 10: the number of the first that says no, or 0.
 fn ask_list(order: OrderRecord, plain: usize, size: usize) -> u64
     ensures { λ r. ⌜ r ≡ firstNo (listQuestions (orderIn order) plain size) ⌝ }
 {

@@ -5,7 +5,7 @@ use mathlib.Core.Bool.{true, _&&_}
 use mathlib.Core.List.{List, [], _∷_, _++_, map}
 use Prim.Native.Nat.{ℕ, zero, suc, _≤_}
 use native.Mathlib.Omega.{arith}
-use borrow.Author.Tests.{leb-true, ltb-true}
+use borrow.Author.Tests.{leb-true, ltb-true, not-true}
 use lib.Dec.{ltb}
 use lib.ListN.{length, take, length-map}
 use Rattle.lists.specs.Lists.{upFrom, any}
@@ -96,6 +96,7 @@ code-told o e f =
       in-range = asked 8 _ tt f;
       one-has-bit-v = nine .0;
       one-has-bit-0 = nine .1;
+      no-shared-factor = not-true _ (asked 16 _ tt f);
     }
 
 -- an order that its questions pass is accepted

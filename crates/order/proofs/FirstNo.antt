@@ -1,12 +1,14 @@
 -- The first question that says no: asked in two parts, and what follows where none says no: each said yes, by its number (`asked`).
 -- Assumes nothing.
-use mathlib.Core.Path.{_≡_, refl, sym, ap, _∙_}
-use mathlib.Core.Bool.{Bool, true, false, cond, _&&_}
+use mathlib.Core.Path.{_≡_, refl, sym, ap, _∙_, subst}
+use mathlib.Core.Bool.{Bool, true, false, not, cond, _&&_}
 use mathlib.Core.List.{List, [], _∷_, _++_}
+use mathlib.Core.Logic.{_↔_}
 use Prim.Native.Nat.{ℕ, zero, suc}
 use native.Mathlib.Nat.{suc-ne-zero}
-use lib.Dec.{T, ltb, eqb}
+use lib.Dec.{T, T-not, ltb, eqb}
 use Rattle.lists.proofs.Tests.{T-and}
+use Rattle.lists.proofs.Choices.{eqb-passes}
 use Rattle.order.specs.Questions.{Question, firstNo}
 use Rattle.order.specs.Answer.{Answer, refused, unless, unlessRefused}
 
@@ -94,15 +96,15 @@ module _ {A L : Type 0} (lent : L) (outcome : Answer A × L) where
 
 -- ---- no refusal: every question says yes
 
+not-zero : (k : ℕ) → T (ltb 0 k) → k ≡ 0 → ⊥
+not-zero zero t e = t
+not-zero (suc k) t e = suc-ne-zero k e
+
 -- a question with a number that is not 0, and those after it
 pub first-yes : (q : Question) (qs : List Question) → T (ltb 0 (q .0)) → firstNo (q ∷ qs) ≡ 0 → (q .1 ≡ true) × (firstNo qs ≡ 0)
 unfolding firstNo
 first-yes q qs n e = by (q .1) refl e
   where
-    not-zero : (k : ℕ) → T (ltb 0 k) → k ≡ 0 → ⊥
-    not-zero zero t e′ = t
-    not-zero (suc k) t e′ = suc-ne-zero k e′
-
     by : (b : Bool) → q .1 ≡ b → cond b (firstNo qs) (q .0) ≡ 0 → (q .1 ≡ true) × (firstNo qs ≡ 0)
     by true eb e′ = (eb, e′)
     by false eb e′ = absurd (not-zero (q .0) n e′)
@@ -127,3 +129,29 @@ none-in-parts (q ∷ qs) rest n e =
     let here = first-yes q (qs ++ rest) (numbers .0) e in
     let later = none-in-parts qs rest (numbers .1) (here .1) in
     (firstNo-yes q qs (here .0) ∙ later .0, later .1)
+
+-- ---- the last question of a list
+
+-- no question has the number k: `tt`, for a list that is written out
+abbrev pub hasNot : ℕ → List Question → Bool
+hasNot k [] = true
+hasNot k (q ∷ qs) = not (eqb (q .0) k) && hasNot k qs
+
+-- it refuses exactly where none before it does, and it says no
+pub last-refuses : (k : ℕ) (b : Bool) (qs : List Question) → T (ltb 0 k) → Numbered qs → T (hasNot k qs)
+    → (firstNo (qs ++ ((k, b) ∷ [])) ≡ k) ↔ ((firstNo qs ≡ 0) × (b ≡ false))
+unfolding firstNo
+last-refuses k true [] nk n t = (λ e. absurd (not-zero k nk (sym e)), λ e. absurd (subst T (e .1) tt))
+last-refuses k false [] nk n t = (λ e. (refl, refl), λ e. refl)
+last-refuses k b (q ∷ qs) nk n t = by (q .1) (last-refuses k b qs nk (numbers .1) (other .1))
+  where
+    numbers : T (ltb 0 (q .0)) × Numbered qs
+    numbers = T-and (ltb 0 (q .0)) (hasNumbers qs) .0 n
+
+    other : T (not (eqb (q .0) k)) × T (hasNot k qs)
+    other = T-and (not (eqb (q .0) k)) (hasNot k qs) .0 t
+
+    by : (y : Bool) → (firstNo (qs ++ ((k, b) ∷ [])) ≡ k) ↔ ((firstNo qs ≡ 0) × (b ≡ false))
+        → (cond y (firstNo (qs ++ ((k, b) ∷ []))) (q .0) ≡ k) ↔ ((cond y (firstNo qs) (q .0) ≡ 0) × (b ≡ false))
+    by true later = later
+    by false later = (λ e. absurd (T-not (eqb (q .0) k) (other .0) (eqb-passes (q .0) k e)), λ e. absurd (not-zero (q .0) (numbers .0) (e .0)))

@@ -1,4 +1,5 @@
 pub mod Answers
 pub mod FirstNo
 pub mod Asked
+pub mod SharedFactor
 pub mod Records

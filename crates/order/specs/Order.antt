@@ -1,5 +1,5 @@
 -- An order: a code, a word length, the degree of the check polynomial to be found, and a threshold on weights; the questions about it; and its
--- record of bytes, read in document 01's order of questions 1 to 9.
+-- record of bytes, read in document 01's order of questions: 1 to 9, then 16.
 -- Assumes nothing.
 use Prim.Native.Nat.{ℕ, _+_, _-_, _*_}
 use mathlib.Core.Bool.{Bool, _&&_}
@@ -32,7 +32,7 @@ numberQuestions T.Code o = []
 numberQuestions T.Threshold o = threshold (o .d) ∷ []
 numberQuestions T.Everything o = checkDegree (o .N) (o .m) ∷ threshold (o .d) ∷ []
 
--- 3 to 9. Every call that takes an order asks this list first, so a new question about orders has one place.
+-- 3 to 9, then 16. Every call that takes an order asks this list first, so a new question about orders has one place.
 unfoldable pub orderQuestions : Takes → Order → List Question
 orderQuestions takes o =
     shapeQuestions (length (o .generators)) (o .v) (o .N) ++ (numberQuestions takes o ++ generatorQuestions (o .v) (o .generators))

@@ -1,13 +1,14 @@
--- Document 01's questions 3 to 12, each as a test, and the number of the first that says no. Questions 1 and 2 are about the bytes of a record
--- (`Order.antt`, which has the questions about a whole order); 13 to 15 are asked once events, paths and candidates have been counted (`search`).
--- A call asks the questions about the values that it takes, in their order.
+-- Document 01's questions 3 to 12, with 16 of document 02 (C-11) after 9, each as a test, and the number of the first that says no.
+-- Questions 1 and 2 are about the bytes of a record (`Order.antt`, which has the questions about a whole order); 13 to 15 are asked once events,
+-- paths and candidates have been counted (`search`). A call asks the questions about the values that it takes, in the order in which they stand here.
 -- Assumes nothing.
 use Prim.Native.Nat.{ℕ, _+_, _-_, _/_, _^_}
-use mathlib.Core.Bool.{Bool, cond, _&&_}
+use mathlib.Core.Bool.{Bool, cond, not, _&&_}
 use mathlib.Core.List.{List, [], _∷_}
 use lib.Dec.{leb, ltb, eqb}
 use Rattle.lists.specs.Lists.{all, any}
 use Rattle.poly.specs.Poly.{bit}
+use Rattle.gcd.specs.SharedFactor.{shareFactor}
 
 -- a question: its number, and whether the answer is yes
 abbrev pub Question : Type 0
@@ -51,6 +52,10 @@ hasBit j g = eqb (bit j g) 1
 abbrev pub generatorEnds : ℕ → List ℕ → Question
 generatorEnds v gs = (9, any (hasBit v) gs && any (hasBit 0) gs)
 
+-- no polynomial other than 1 divides every generator
+abbrev pub noSharedFactor : List ℕ → Question
+noSharedFactor gs = (16, not (shareFactor gs))
+
 -- a lent list has at least as many entries as are needed; a call that takes several asks this of each
 abbrev pub room : ℕ → ℕ → Question
 room need have = (10, leb need have)
@@ -73,6 +78,6 @@ below N u = (12, ltb u (2 ^ N))
 unfoldable pub shapeQuestions : ℕ → ℕ → ℕ → List Question
 shapeQuestions n v N = generatorCount n ∷ memory v ∷ wordLength v N ∷ []
 
--- 8 and 9
+-- 8, 9 and 16
 unfoldable pub generatorQuestions : ℕ → List ℕ → List Question
-generatorQuestions v gs = generatorRange v gs ∷ generatorEnds v gs ∷ []
+generatorQuestions v gs = generatorRange v gs ∷ generatorEnds v gs ∷ noSharedFactor gs ∷ []

@@ -6,6 +6,7 @@ ghost use lib.Dec.{ltb, eqb};
 ghost use Rattle.lists.specs.Lists.{all, any};
 ghost use Rattle.poly.specs.Poly.{bit};
 ghost use Rattle.order.specs.Questions.{firstNo, from-to, inRange, hasBit, shapeQuestions, generatorQuestions};
+use gcd::share_factor;
 
 // The numbers that a work area has at least.
 pub const WORK_SIZE: usize = 8192;
@@ -119,7 +120,7 @@ pub fn ends_reached(v: u64, generators: &[u64]) -> bool
     false
 }
 
-// Questions 8 and 9: the number of the first that says no, or 0.
+// Questions 8, 9 and 16: the number of the first that says no, or 0.
 pub fn ask_generators(v: u64, generators: &[u64]) -> u64
     requires { ⌜ v < 63 ⌝ }
     ensures { λ r. ⌜ r ≡ firstNo (generatorQuestions v (now (generators .entry))) ⌝ }
@@ -129,6 +130,9 @@ pub fn ask_generators(v: u64, generators: &[u64]) -> u64
     }
     if !ends_reached(v, generators) {
         return 9;
+    }
+    if share_factor(generators) {
+        return 16;
     }
     0
 }

@@ -144,7 +144,7 @@ fn ask_numbers(takes: Takes, o: OrderRecord) -> u64
     }
 }
 
-// Questions 8 and 9 of the first n of four generators.
+// Questions 8, 9 and 16 of the first n of four generators.
 fn ask_four(v: u64, n: usize, g1: u64, g2: u64, g3: u64, g4: u64) -> u64
     requires { ⌜ (v < 63) × (n ≤ 4) ⌝ }
     ensures { λ r. ⌜ r ≡ firstNo (generatorQuestions v (take n (g1 ∷ g2 ∷ g3 ∷ g4 ∷ []))) ⌝ }
@@ -153,7 +153,7 @@ fn ask_four(v: u64, n: usize, g1: u64, g2: u64, g3: u64, g4: u64) -> u64
     ask_generators(v, &all[..n])
 }
 
-// Questions 3 to 9, as far as the call takes them: the number of the first that says no, or 0.
+// Questions 3 to 9, then 16, as far as the call takes them: the number of the first that says no, or 0.
 pub fn ask_order(takes: Takes, o: OrderRecord) -> u64
     ensures { λ r. ⌜ r ≡ firstNo (orderQuestions takes (orderIn o)) ⌝ }
 {

@@ -2,13 +2,13 @@
 -- Assumes nothing.
 use mathlib.Core.Path.{_≡_, sym, ap, _∙_}
 use Prim.Native.Nat.{ℕ, zero, suc, _+_, _-_, _*_, _/_, _%_, _^_, _≤_, _<_}
-use native.Mathlib.Nat.{mod-eq-of-lt, not-suc-le-zero, div-eq-of-lt, div-one, div-div-eq-div-mul, div-lt-iff-lt-mul, pow-suc, le-of-eq}
+use native.Mathlib.Nat.{mod-eq-of-lt, not-suc-le-zero, div-eq-of-lt, div-one, div-div-eq-div-mul, pow-suc}
 use native.Mathlib.Numerals.{sub-one}
 use native.Mathlib.Omega.{arith}
-use lib.Pow.{pow-pos, pow-mono}
+use lib.Pow.{pow-mono}
 use Rattle.poly.specs.Poly.{bit, _⊕_, HasDegree, register, remainder}
 use Rattle.poly.specs.Model.Asked.{Modulus}
-use Rattle.poly.proofs.Remainder.{push-top, remainder-zero, remainder-step, remainder-lt}
+use Rattle.poly.proofs.Remainder.{degree-bounds, push-top, remainder-zero, remainder-step, remainder-lt}
 
 -- no bits yet
 pub divided-none : (m p u n : ℕ) → u < 2 ^ n → 0 ≡ remainder m p (u / 2 ^ n)
@@ -36,8 +36,10 @@ register-of-remainder m p r b h d = ap (λ (x : ℕ). (2 * r + b) ⊕ (x * p)) (
 -- the register's numbers stay small: degree at most 12
 pub polynomial-small : {m p : ℕ} → Modulus m p → p < 2 ^ 32
 polynomial-small {m} {p} by =
-    let q : p < 2 * 2 ^ m = div-lt-iff-lt-mul (pow-pos m) .0 (le-of-eq (ap suc (by .degree))) in
-    let s : 2 ^ m ≤ 2 ^ 12 = pow-mono (by .at-most-12) in
+    let q = degree-bounds m p (by .degree) .1 in
+    let few = by .at-most-12 in
+    let least : suc m ≤ 13 = omega arith in
+    let s : 2 ^ suc m ≤ 2 ^ 13 = pow-mono least in
     omega arith
 
 -- the same of a register's fields

@@ -2,10 +2,11 @@
 -- Assumes nothing.
 use mathlib.Core.Path.{_≡_, sym, ap, ap₂, _∙_}
 use Prim.Native.Nat.{ℕ, _+_, _*_, _/_, _%_, _<_}
-use native.Mathlib.Nat.{zero-mul, mul-zero, one-mul, mul-one, mul-left-comm}
+use native.Mathlib.Nat.{zero-mul, mul-zero, one-mul, mul-one, mul-left-comm, add-zero}
 use lib.Arith.{bin-ind}
+use lib.Dec.{lit<}
 use Rattle.poly.specs.Poly.{_⊕_, _⊗_}
-use Rattle.poly.proofs.Sum.{mod2-lt, for-bits, half-push, mod2-push, ⊕-zero-l, ⊕-interchange, double-⊕, halves-⊕, digit-times-⊕, differ-times}
+use Rattle.poly.proofs.Sum.{mod2-lt, for-bits, half-push, mod2-push, ⊕-zero-l, ⊕-zero-r, ⊕-interchange, double-⊕, halves-⊕, digit-times-⊕, differ-times}
 use Rattle.poly.proofs.Horner.{horner-step, horner-zero, horner-⊕, LinearStep}
 
 -- the product's step, by a
@@ -36,6 +37,10 @@ pub ⊗-push : (a q c : ℕ) → c < 2 → a ⊗ (2 * q + c) ≡ (2 * (a ⊗ q))
 ⊗-push a q c h =
     ⊗-step a (2 * q + c)
     ∙ ap₂ (λ (x y : ℕ). (2 * (a ⊗ x)) ⊕ (y * a)) (half-push q c h) (mod2-push q c h)
+
+pub ⊗-double : (a q : ℕ) → a ⊗ (2 * q) ≡ 2 * (a ⊗ q)
+⊗-double a q =
+    ap (λ (x : ℕ). a ⊗ x) (sym (add-zero (2 * q))) ∙ ⊗-push a q 0 (lit< tt) ∙ ap (λ (x : ℕ). (2 * (a ⊗ q)) ⊕ x) (zero-mul a) ∙ ⊕-zero-r (2 * (a ⊗ q))
 
 -- ---- it distributes over the sum, on either side
 
@@ -87,3 +92,6 @@ pub ⊗-comm : (a b : ℕ) → a ⊗ b ≡ b ⊗ a
     ∙ ap₂ (λ (x y : ℕ). x ⊕ y) (ap (λ (x : ℕ). 2 * x) ih ∙ sym (double-⊗ (n / 2) a)) (sym (digit-⊗ (n % 2) a (mod2-lt n)))
     ∙ sym (⊗-⊕-l (2 * (n / 2)) (n % 2) a)
     ∙ ap (λ (x : ℕ). x ⊗ a) (halves-⊕ n)) b
+
+pub ⊗-one : (a : ℕ) → a ⊗ 1 ≡ a
+⊗-one a = ⊗-comm a 1 ∙ one-⊗ a

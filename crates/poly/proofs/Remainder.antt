@@ -3,15 +3,15 @@
 -- Assumes nothing.
 use mathlib.Core.Path.{_≡_, sym, ap, ap₂, _∙_, subst}
 use mathlib.Core.Logic.{_↔_}
-use Prim.Native.Nat.{ℕ, suc, _+_, _*_, _/_, _%_, _^_, _<_}
-use native.Mathlib.Nat.{zero-mul, one-mul, zero-div, add-zero, div-add-mod, mod-eq-of-lt, le-refl, div-le-self, lt-of-le-of-lt, mul-comm, div-lt-iff-lt-mul, le-of-eq}
+use Prim.Native.Nat.{ℕ, suc, _+_, _*_, _/_, _%_, _^_, _≤_, _<_}
+use native.Mathlib.Nat.{zero-mul, one-mul, zero-div, add-zero, div-add-mod, mod-eq-of-lt, le-refl, div-le-self, lt-of-le-of-lt, pow-succ', div-lt-iff-lt-mul, le-of-eq}
 use native.Mathlib.Omega.{arith}
 use lib.Dec.{lit<}
 use lib.Arith.{bin-ind}
 use lib.Pow.{pow-pos}
 use Rattle.poly.specs.Poly.{bit, _⊕_, _⊗_, HasDegree, register, remainder, Divides}
 use Rattle.poly.proofs.Sum.{mod2-lt, bit-lt, for-bits, bit-⊕, half-push, mod2-push, ⊕-zero-l, ⊕-zero-r, ⊕-self, ⊕-assoc, ⊕-interchange, ⊕-push, ⊕-shr, eq-of-⊕-zero, double-⊕, push-⊕, halves-⊕, differ-times}
-use Rattle.poly.proofs.Bits.{bit-zero, bit-above}
+use Rattle.poly.proofs.Bits.{bit-zero, bit-above, half-lt}
 use Rattle.poly.proofs.Horner.{horner-step, horner-zero, horner-⊕, LinearStep}
 use Rattle.poly.proofs.Product.{⊗-zero, ⊗-step, ⊗-push}
 
@@ -71,7 +71,7 @@ remainder-small m p =
     ∙ register-stays m p n h)
 
 -- two numbers of m + 1 digits with the same digit at m: their sum has m digits
-same-top-lt : (m a b : ℕ) → a / 2 ^ m ≡ b / 2 ^ m → a ⊕ b < 2 ^ m
+pub same-top-lt : (m a b : ℕ) → a / 2 ^ m ≡ b / 2 ^ m → a ⊕ b < 2 ^ m
 same-top-lt m a b e =
     subst (λ (x : ℕ). a ⊕ b < x) (one-mul (2 ^ m))
     (div-lt-iff-lt-mul (pow-pos m) .0 (le-of-eq (ap suc (⊕-shr m a b ∙ ap (λ (x : ℕ). (a / 2 ^ m) ⊕ x) (sym e) ∙ ⊕-self (a / 2 ^ m)))))
@@ -123,9 +123,17 @@ division m p =
     (0, sym (ap₂ (λ (x y : ℕ). x ⊕ y) (⊗-zero p) (remainder-zero m p) ∙ ⊕-zero-l 0))
     (λ n ih. (2 * ih .0 + bit m (2 * remainder m p (n / 2) + n % 2), division-step m p (ih .0) n (ih .1)))
 
+-- what a degree says of the number
+pub degree-bounds : (m p : ℕ) → HasDegree m p → (2 ^ m ≤ p) × (p < 2 ^ suc m)
+degree-bounds m p d =
+    let high : p < 2 * 2 ^ m = div-lt-iff-lt-mul (pow-pos m) .0 (le-of-eq (ap suc d)) in
+    let low : ¬ (p < 1 * 2 ^ m) = λ h. let z = div-lt-iff-lt-mul (pow-pos m) .1 h in omega arith in
+    let same = one-mul (2 ^ m) in
+    let twice = pow-succ' 2 m in
+    (omega arith, omega arith)
+
 degree-half-lt : (m p : ℕ) → HasDegree m p → p / 2 < 2 ^ m
-degree-half-lt m p d =
-    div-lt-iff-lt-mul (lit< tt) .1 (subst (λ (x : ℕ). p < x) (mul-comm 2 (2 ^ m)) (div-lt-iff-lt-mul (pow-pos m) .0 (le-of-eq (ap suc d))))
+degree-half-lt m p d = half-lt m p (degree-bounds m p d .1)
 
 remainder-self : (m p : ℕ) → HasDegree m p → remainder m p p ≡ 0
 unfolding register bit

@@ -5,6 +5,7 @@ use mathlib.Core.List.{map, flatMap}
 use lib.Count.{onesIn, ones}
 use Rattle.lists.specs.Lists.{upFrom, filter, count, all, any, padded, cleared}
 use Rattle.poly.specs.Poly.{bit, _⊕_, digitsThrough, horner, _⊗_, register, remainder}
+use Rattle.gcd.specs.SharedFactor.{divides, total, shareFactor}
 use Rattle.crc.specs.Check.{append, polynomialQuestions, wordQuestions, appendCall}
 use Rattle.code.specs.Weight.{output, weight}
 use Rattle.code.specs.Trellis.{next, tapped, stepOutput, stepWeight, walkWeight, firstMeets}
@@ -18,8 +19,8 @@ use Rattle.undetected.specs.Undetected.{passes, undetectedCount, undetectedCoun
 use Rattle.choice.specs.Choice.{candidates, fewer, betters, best, choiceOf, choice}
 use Rattle.listing.specs.Calls.{unlessTooMany}
 use Rattle.search.specs.Calls.{clearedSearch, filledSearch, searchQuestions, chosen, searchCall}
-use Rattle.rows.specs.Rows.{lent, figuresOf, told, rows}
+use Rattle.rows.specs.Rows.{lent, figuresOf, told, marked, rows}
 
 pub rows-hold : map (λ line. told (line .0)) rows ≡ map (λ line. line .1) rows
-unfolding flatMap onesIn ones upFrom filter count all any padded cleared bit _⊕_ digitsThrough horner _⊗_ register remainder append polynomialQuestions wordQuestions appendCall output weight next tapped stepOutput stepWeight walkWeight firstMeets firstNo from-to inRange hasBit workSize shapeQuestions numberQuestions generatorQuestions orderQuestions unless unlessRefused isListed eventsOfLength eventsOfState events entry noEvent eventTable words wordsOfWeight weights paths plainCounts halves pathTable pathRoom passes undetectedCount undetectedCounts candidates fewer betters best choiceOf choice unlessTooMany clearedSearch filledSearch searchQuestions chosen searchCall lent figuresOf told rows
+unfolding flatMap onesIn ones upFrom filter count all any padded cleared bit _⊕_ digitsThrough horner _⊗_ register remainder append polynomialQuestions wordQuestions appendCall output weight next tapped stepOutput stepWeight walkWeight firstMeets firstNo from-to inRange hasBit workSize divides total shareFactor shapeQuestions numberQuestions generatorQuestions orderQuestions unless unlessRefused isListed eventsOfLength eventsOfState events entry noEvent eventTable words wordsOfWeight weights paths plainCounts halves pathTable pathRoom passes undetectedCount undetectedCounts candidates fewer betters best choiceOf choice unlessTooMany clearedSearch filledSearch searchQuestions chosen searchCall lent figuresOf told marked rows
 rows-hold = refl

@@ -1,5 +1,5 @@
--- Document 01's rows marked ● as one table: what is asked, and every figure of the answer. `proofs/Hold.antt` has the one theorem, that each
--- line's figures are what the definitions give. Where document 01 leaves a figure of a row out, the line states it all the same.
+-- Document 01's rows marked ●, as document 02 (C-11) left them, as one table: what is asked, and every figure of the answer. `proofs/Hold.antt` has
+-- the one theorem, that each line's figures are what the definitions give. Where a document leaves a figure out, the line states it all the same.
 -- Polynomials are in hexadecimal, the rest in decimal, as in the document. Code S has v = 1 and generators 1, 3.
 -- Assumes nothing.
 use Prim.Native.Nat.{ℕ, _*_}
@@ -7,16 +7,20 @@ use mathlib.Core.List.{List, [], _∷_}
 use lib.ListN.{length, replicate}
 use Rattle.crc.specs.Check.{appendCall}
 use Rattle.code.specs.Weight.{weight}
-use Rattle.order.specs.Questions.{workSize}
-use Rattle.order.specs.Order.{Order}
+use Rattle.order.specs.Questions.{firstNo, workSize}
+use Rattle.order.specs.Order.{Order, orderQuestions}
+use Rattle.order.specs.declared.questions.Takes.the-variants as T
 use Rattle.events.specs.Events.{ErrorEvent, events, noEvent}
 use Rattle.paths.specs.Paths.{paths, plainCounts}
-use Rattle.order.specs.Answer.{Answer, accepted, refusedWith}
+use Rattle.order.specs.Answer.{Answer, accepted, refused, refusedWith}
 use Rattle.search.specs.Calls.{Found, found, SearchTables, searchTables, searchCall}
 
--- what a line asks: the row of an order; the weight of a word; the word of a message
+-- what a line asks: the row of an order; what the search answers and leaves of what it is lent; the first question about an order that says no,
+-- or 0; the weight of a word; the word of a message
 pub data Ask : Type 0 where
   row : Order → Ask
+  searched : Order → SearchTables → Ask
+  question : Order → Ask
   weigh : (N : ℕ) (generators : List ℕ) (word : ℕ) → Ask
   word : (N m polynomial message : ℕ) → Ask
 
@@ -29,6 +33,7 @@ pub record Figures : Type 0 where
 
 pub data Told : Type 0 where
   figures : Figures → Told
+  answer-and-tables : Answer Found × SearchTables → Told
   a-number : ℕ → Told
   an-answer : Answer ℕ → Told
 
@@ -43,6 +48,8 @@ figuresOf o =
 
 unfoldable pub told : Ask → Told
 told (row o) = figures (figuresOf o)
+told (searched o t) = answer-and-tables (searchCall o t)
+told (question o) = a-number (firstNo (orderQuestions T.Everything o))
 told (weigh N gs u) = a-number (weight N gs u)
 told (word N m p f) = an-answer (appendCall N m p f)
 
@@ -56,14 +63,23 @@ Line = Ask × Told
 abbrev event : ℕ → ℕ → ℕ → ℕ → ErrorEvent
 event s l w c = record { state = s; length = l; weight = w; input = c }
 
+abbrev order : (v N m d : ℕ) → List ℕ → Order
+order v N m d gs = record { v = v; N = N; m = m; d = d; generators = gs }
+
 abbrev line : (v N m d : ℕ) → List ℕ → Answer Found → List ErrorEvent → List ℕ → List ℕ → List ℕ → Line
 line v N m d gs answer es us plain undetected = (
-  row (record { v = v; N = N; m = m; d = d; generators = gs }),
+  row (order v N m d gs),
   figures (record { answer = answer; events = es; paths = us; plain = plain; undetected = undetected }),
 )
 
 abbrev S : List ℕ
 S = 1 ∷ 3 ∷ []
+
+-- tables that are lent with something in every place
+unfoldable pub marked : SearchTables
+marked =
+    searchTables (replicate 2 (record { state = 7; length = 7; weight = 7; low = 7; high = 7 })) (replicate 4 7)
+    (7 ∷ []) (7 ∷ []) (replicate workSize 7)
 
 unfoldable pub rows : List Line
 rows =
@@ -104,12 +120,12 @@ rows =
     (event 0 1 0 0 ∷ event 1 1 1 1 ∷ [])
     (3 ∷ [])
     (0 ∷ 0 ∷ 1 ∷ []) (0 ∷ 0 ∷ 1 ∷ [])
-    -- generators 3, 3, v=1, N=2, m=1, d=1: 2 events, 0x3, undetected 1 (word 3 weighs 0)
-    ∷ line 1 2 1 1 (3 ∷ 3 ∷ []) (accepted (found 2 1 0x3))
-    (event 0 1 0 0 ∷ event 1 1 0 1 ∷ [])
-    (3 ∷ [])
-    (1 ∷ []) (1 ∷ [])
+    -- generators 3, 3, v=1, N=2, m=1, d=1: refusal 16, and nothing lent is changed (word 3 weighs 0)
+    ∷ (searched (order 1 2 1 1 (3 ∷ 3 ∷ [])) marked, answer-and-tables (refused 16, marked))
     ∷ (weigh 2 (3 ∷ 3 ∷ []) 3, a-number 0)
+    -- 5, 3 with v=2: refusal 16; 13, 17 (octal) pass
+    ∷ (question (order 2 4 2 6 (0x5 ∷ 0x3 ∷ [])), a-number 16)
+    ∷ (question (order 3 70 6 18 (0xB ∷ 0xF ∷ [])), a-number 0)
     -- m=2, N=4: message 1 under 0x7 gives word 7; message 3 under 0x5 gives word 15
     ∷ (word 4 2 0x7 1, an-answer (accepted 7))
     ∷ (word 4 2 0x5 3, an-answer (accepted 15))

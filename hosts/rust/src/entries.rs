@@ -135,8 +135,7 @@ mod tests {
         assert_eq!(needed(&[1, 3], 1, 3, 5), entries(4, 7));
         assert_eq!(needed(&[1, 3], 1, 4, 6), entries(5, 13));
         assert_eq!(needed(&[1, 3], 1, 4, 7), entries(5, 15));
-        // The word 3 weighs nothing.
-        assert_eq!(needed(&[3, 3], 1, 2, 1), entries(2, 1));
+        assert_eq!(needed(&[1, 3], 1, 2, 3), entries(2, 1));
     }
 
     #[test]

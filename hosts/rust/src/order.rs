@@ -3,7 +3,7 @@
 use crate::refusal::accepted;
 use crate::{calls, search, AnyOrder, Lent, Refusal};
 
-/// An order. There is none that questions 1 to 9 would refuse.
+/// An order. There is none that questions 1 to 9, or 16, would refuse.
 ///
 /// ```
 /// use dohvrin::{Order, Refusal};
@@ -11,6 +11,7 @@ use crate::{calls, search, AnyOrder, Lent, Refusal};
 /// let order = Order::new(&[1, 3], 1, 4, 2, 6).unwrap();
 /// assert_eq!(Order::from_record(&order.record()), Ok(order));
 /// assert_eq!(Order::new(&[1, 4], 1, 4, 2, 6), Err(Refusal::Generator));
+/// assert_eq!(Order::new(&[3, 3], 1, 4, 2, 6), Err(Refusal::SharedFactor));
 /// ```
 #[derive(Clone, Debug, PartialEq, Eq)]
 pub struct Order(AnyOrder);
@@ -120,6 +121,8 @@ mod tests {
         assert_eq!(refused(&[1, 3], 1, 4, 2, 65), Refusal::Threshold);
         assert_eq!(refused(&[1, 4], 1, 4, 2, 6), Refusal::Generator);
         assert_eq!(refused(&[2, 2], 1, 4, 2, 6), Refusal::GeneratorEnds);
+        assert_eq!(refused(&[3, 3], 1, 4, 2, 6), Refusal::SharedFactor);
+        assert_eq!(refused(&[5, 3], 2, 4, 2, 6), Refusal::SharedFactor);
         assert_eq!(refused(&[1, 3], u64::MAX, 4, 2, 6), Refusal::Memory);
     }
 

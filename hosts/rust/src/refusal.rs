@@ -38,10 +38,12 @@ pub enum Refusal {
     Paths,
     /// Question 15: how many candidates share the best counts.
     Tie { left: u64 },
+    /// Question 16, which is asked after 9.
+    SharedFactor,
 }
 
 /// All of them in the order of their numbers, from 1 on.
-const ALL: [Refusal; 15] = [
+const ALL: [Refusal; 16] = [
     Refusal::RecordLength,
     Refusal::RecordVersion,
     Refusal::GeneratorCount,
@@ -57,10 +59,11 @@ const ALL: [Refusal; 15] = [
     Refusal::Events,
     Refusal::Paths,
     Refusal::Tie { left: 0 },
+    Refusal::SharedFactor,
 ];
 
 impl Refusal {
-    /// The refusal of a number from 1 to 15; `left` is told with 15 alone.
+    /// The refusal of a number from 1 to 16; `left` is told with 15 alone.
     pub fn of(number: u64, left: u64) -> Option<Refusal> {
         let place = usize::try_from(number.checked_sub(1)?).ok()?;
         ALL.get(place).map(|refusal| match refusal {
@@ -96,6 +99,7 @@ impl Refusal {
             Refusal::Events => "there are more error events than the event table takes",
             Refusal::Paths => "there are more paths than the path table takes",
             Refusal::Tie { .. } => "several polynomials share the best counts",
+            Refusal::SharedFactor => "the generators share a factor",
         }
     }
 
@@ -108,9 +112,14 @@ impl Refusal {
     }
 }
 
-/// An answer's refusal as an error, where there is one.
+/// An answer's refusal as an error, where there is one. A number that no
+/// question has would come of a library that is not this host's: it is no
+/// acceptance.
 pub(crate) fn accepted(refusal: u64) -> Result<(), Refusal> {
-    Refusal::of(refusal, 0).map_or(Ok(()), Err)
+    match refusal {
+        0 => Ok(()),
+        number => Err(Refusal::of(number, 0).expect("the library refuses by a question")),
+    }
 }
 
 impl fmt::Display for Refusal {
@@ -128,19 +137,27 @@ impl Error for Refusal {}
 
 #[cfg(test)]
 mod tests {
-    use super::Refusal;
+    use super::{accepted, Refusal};
 
     #[test]
     fn numbers_and_refusals_belong_together() {
-        for number in 1..=15 {
+        for number in 1..=16 {
             let refusal = Refusal::of(number, 7).unwrap();
             assert_eq!(refusal.number(), number);
             assert_eq!(refusal.left(), if number == 15 { 7 } else { 0 });
             assert!(!refusal.meaning().contains('\n'));
         }
-        for number in [0, 16, u64::MAX] {
+        for number in [0, 17, u64::MAX] {
             assert_eq!(Refusal::of(number, 0), None);
         }
+        assert_eq!(accepted(0), Ok(()));
+        assert_eq!(accepted(16), Err(Refusal::SharedFactor));
+    }
+
+    #[test]
+    #[should_panic(expected = "refuses by a question")]
+    fn an_unknown_number_is_no_acceptance() {
+        let _ = accepted(17);
     }
 
     #[test]
@@ -149,5 +166,6 @@ mod tests {
         assert_eq!(Refusal::Room.number(), 10);
         assert_eq!(Refusal::Paths.number(), 14);
         assert_eq!(Refusal::Tie { left: 2 }.number(), 15);
+        assert_eq!(Refusal::SharedFactor.number(), 16);
     }
 }

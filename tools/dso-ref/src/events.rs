@@ -65,7 +65,7 @@ pub fn list(order: &Order, capacity: usize) -> Result<Vec<Event>, Refusal> {
 }
 
 /// The collection as a call that takes no check degree: questions 3, 4, 5, 7,
-/// 8, 9, 10 about a work area of `work` numbers, and 13.
+/// 8, 9, 16, 10 about a work area of `work` numbers, and 13.
 pub fn collect(
     code: Code,
     threshold: usize,
@@ -76,7 +76,7 @@ pub fn collect(
     listed(code, threshold, entries)
 }
 
-/// Questions 3, 4, 5, 7, 8, 9, and 10 about a work area of `work` numbers.
+/// Questions 3, 4, 5, 7, 8, 9, 16, and 10 about a work area of `work` numbers.
 pub fn ask(code: Code, threshold: usize, work: usize) -> Asked {
     questions::generator_count(code.generators.len())?;
     questions::memory(code.memory)?;

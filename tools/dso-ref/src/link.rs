@@ -16,7 +16,7 @@ pub struct Code<'a> {
 }
 
 impl Code<'_> {
-    /// Questions 3, 4, 5, 8 and 9.
+    /// Questions 3, 4, 5, 8, 9 and 16.
     fn ask(&self) -> Asked {
         questions::generator_count(self.generators.len())?;
         questions::memory(self.memory)?;
@@ -191,6 +191,12 @@ mod tests {
             ..zero
         };
         assert_eq!(weight(no_end, !0), Err(No(9)));
+        let shared = Code {
+            generators: &[5, 3],
+            ..zero
+        };
+        assert_eq!(weight(shared, !0), Err(No(16)));
+        assert_eq!(encode(shared, !0, 0), Err(No(16)));
         assert_eq!(encode(S, 16, 7), Err(No(10)));
         assert_eq!(encode(S, 16, 8), Err(No(12)));
         assert_eq!(weight(S, 16), Err(No(12)));

@@ -13,7 +13,7 @@ use std::ops::Range;
 /// The greatest length at which all words are taken one by one.
 pub const LONGEST: usize = 18;
 
-/// Questions 3, 4, 5, 7, 8, 9, and 10 about a work area of `work` numbers and
+/// Questions 3, 4, 5, 7, 8, 9, 16, and 10 about a work area of `work` numbers and
 /// plain counts of `counts` entries.
 pub fn ask(code: Code, threshold: usize, counts: usize, work: usize) -> Asked {
     events::ask(code, threshold, work)?;
@@ -101,6 +101,11 @@ mod tests {
         assert_eq!(ask(S, 7, 6, 8192), Err(Refusal::No(10)));
         assert_eq!(ask(S, 7, 7, 8191), Err(Refusal::No(10)));
         assert_eq!(ask(S, 0, 7, 0), Err(Refusal::No(7)));
+        let shared = Code {
+            generators: &[3, 3],
+            ..S
+        };
+        assert_eq!(ask(shared, 7, 0, 0), Err(Refusal::No(16)));
     }
 
     #[test]

@@ -3,7 +3,7 @@
 use crate::link::Code;
 use crate::questions::{self, Asked, Refusal};
 
-/// An order that has passed questions 3 to 9.
+/// An order that has passed questions 3 to 9 and 16.
 #[derive(Clone, Debug, PartialEq, Eq)]
 pub struct Order {
     memory: usize,
@@ -14,7 +14,7 @@ pub struct Order {
 }
 
 impl Order {
-    /// Asks questions 3 to 9 about v, N, m, d and the generators.
+    /// Asks questions 3 to 9 and 16 about v, N, m, d and the generators.
     pub fn new(
         memory: usize,
         length: usize,
@@ -38,7 +38,7 @@ impl Order {
         })
     }
 
-    /// Asks questions 1 to 9 about the bytes of a record.
+    /// Asks questions 1 to 9 and 16 about the bytes of a record.
     pub fn from_record(bytes: &[u8]) -> Result<Order, Refusal> {
         let body = body_of(bytes)?;
         if body.first() != Some(&1) {
@@ -155,7 +155,7 @@ mod tests {
     }
 
     #[test]
-    fn the_limits_of_questions_4_to_9() {
+    fn the_limits_of_questions_4_to_9_and_16() {
         let no = |v, length, m, d, g: &[u64]| match Order::new(v, length, m, d, g) {
             Ok(_) => 0,
             Err(Refusal::No(number)) => number,
@@ -175,6 +175,9 @@ mod tests {
         assert_eq!(no(1, 4, 2, 6, &[1, 4]), 8);
         assert_eq!(no(1, 4, 2, 6, &[2, 2]), 9);
         assert_eq!(no(1, 4, 2, 6, &[1, 1]), 9);
+        assert_eq!(no(1, 4, 2, 6, &[3, 3]), 16);
+        assert_eq!(no(2, 4, 2, 6, &[5, 3]), 16);
+        assert_eq!(no(3, 4, 2, 6, &[0o13, 0o17]), 0);
         assert_eq!(no(1, 4, 2, 6, &[1]), 3);
     }
 }

@@ -1,5 +1,8 @@
 //! The questions of document 01, one function each. A call asks those that
-//! concern the values it takes, in the order of their numbers.
+//! concern the values it takes, in the order of their numbers, but for 16, which
+//! stands after 9.
+
+use crate::poly;
 
 /// The answer of a refused call.
 #[derive(Clone, Debug, PartialEq, Eq)]
@@ -47,12 +50,25 @@ pub fn threshold(d: usize) -> Asked {
     ask(7, (1..=64).contains(&d))
 }
 
+/// Questions 8, 9 and 16.
+pub fn generators(v: usize, generators: &[u64]) -> Asked {
+    generator_bits(v, generators)?;
+    common_divisor(v, generators)
+}
+
 /// Questions 8 and 9: every generator nonzero and below 2^(v+1); some
 /// generator with bit v, some with bit 0.
-pub fn generators(v: usize, generators: &[u64]) -> Asked {
+pub fn generator_bits(v: usize, generators: &[u64]) -> Asked {
     ask(8, generators.iter().all(|&g| g != 0 && g >> (v + 1) == 0))?;
     let either = generators.iter().fold(0, |all, g| all | g);
     ask(9, either >> v & 1 == 1 && either & 1 == 1)
+}
+
+/// Question 16: is 1 the only common divisor of the generators? Every other
+/// polynomial of degree up to v is tried.
+pub fn common_divisor(v: usize, generators: &[u64]) -> Asked {
+    let divides_all = |p| generators.iter().all(|&g| poly::divides(p, g.into()));
+    ask(16, !(2..2 << v).any(divides_all))
 }
 
 /// Question 10, for the codeword output: is there room for n times N bits?
@@ -84,4 +100,66 @@ pub fn below_power(word: u128, bits: usize) -> Asked {
 /// Question 14: are there at most as many paths as entries?
 pub fn path_entries(entries: usize, paths: usize) -> Asked {
     ask(14, paths <= entries)
+}
+
+#[cfg(test)]
+mod tests {
+    use super::*;
+
+    /// Whether generators that pass 8 and 9 pass 16.
+    fn coprime(v: usize, given: &[u64]) -> bool {
+        assert_eq!(generator_bits(v, given), Ok(()));
+        generators(v, given) != Err(Refusal::No(16))
+    }
+
+    #[test]
+    fn generators_with_a_common_divisor() {
+        assert!(coprime(3, &[0o13, 0o17]));
+        assert!(!coprime(1, &[3, 3]));
+        assert!(!coprime(2, &[5, 3]));
+        // All of degree v, alone.
+        assert!(!coprime(3, &[0o13, 0o13]));
+        assert!(!coprime(8, &[0o561; 4]));
+        // x+1 divides all but the last; x all but the first.
+        assert!(coprime(3, &[0o11, 3, 5, 0o13]));
+        assert!(coprime(3, &[1, 2, 4, 0o10]));
+    }
+
+    #[test]
+    fn two_of_three_share_a_factor() {
+        // (x+1)(x^2+x+1), (x+1)(x^3+x+1), (x^2+x+1)(x^3+x+1)
+        assert!(coprime(5, &[0o11, 0o35, 0o61]));
+        assert!(!coprime(5, &[0o11, 0o61, 0o61]));
+        assert!(!coprime(4, &[0o35, 0o35, 0o13]));
+        assert!(coprime(4, &[0o35, 0o35, 7]));
+    }
+
+    #[test]
+    fn questions_8_and_9_come_first() {
+        assert_eq!(generators(1, &[0, 0]), Err(Refusal::No(8)));
+        assert_eq!(generators(1, &[6, 6]), Err(Refusal::No(8)));
+        assert_eq!(generators(1, &[2, 2]), Err(Refusal::No(9)));
+        assert_eq!(generators(2, &[3, 3]), Err(Refusal::No(9)));
+    }
+
+    fn product(a: u64, b: u64) -> u64 {
+        let powers = (0..64).filter(|j| b >> j & 1 == 1);
+        powers.fold(0, |sum, j| sum ^ a << j)
+    }
+
+    #[test]
+    fn pairs_are_refused_that_are_products_with_one_polynomial() {
+        for v in 1..=4 {
+            let all = || 1..2 << v;
+            let multiples = |p| all().map(move |a| product(p, a)).collect::<Vec<_>>();
+            let multiples: Vec<Vec<u64>> = all().skip(1).map(multiples).collect();
+            for (one, other) in all().flat_map(|one| all().map(move |other| (one, other))) {
+                if generator_bits(v, &[one, other]).is_ok() {
+                    let both = |m: &Vec<u64>| m.contains(&one) && m.contains(&other);
+                    let shared = multiples.iter().any(both);
+                    assert_eq!(coprime(v, &[one, other]), !shared, "{one:o} {other:o}");
+                }
+            }
+        }
+    }
 }

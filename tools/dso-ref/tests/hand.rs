@@ -63,6 +63,7 @@ fn the_collection_takes_no_check_degree_and_asks_in_order() {
     assert_eq!(events::collect(code(1, 1, &[0, 0]), 65, 0, 0), no(7));
     assert_eq!(events::collect(code(1, 1, &[0, 3]), 2, 0, 0), no(8));
     assert_eq!(events::collect(code(1, 1, &[1, 1]), 2, 0, 0), no(9));
+    assert_eq!(events::collect(code(1, 1, &[3, 3]), 2, 0, 0), no(16));
     assert_eq!(events::collect(code(1, 1, &[1, 3]), 2, 0, 8191), no(10));
     assert_eq!(events::collect(code(1, 1, &[1, 3]), 2, 1, 8192), no(13));
 }
@@ -100,8 +101,14 @@ fn words_5_and_10_stand_once_each() {
 #[test]
 fn the_shortest_rows() {
     assert_eq!(short(&order(2, 1, 3, &[1, 3])), (2, 1, vec![0, 0, 1], 0x3));
-    // Word 3 weighs 0.
-    assert_eq!(short(&order(2, 1, 1, &[3, 3])), (2, 1, vec![1], 0x3));
+}
+
+#[test]
+fn generators_that_share_a_factor() {
+    let refused = |v, length, generators: &[u64]| Order::new(v, length, 1, 1, generators).err();
+    assert_eq!(refused(1, 2, &[3, 3]), Some(Refusal::No(16)));
+    assert_eq!(refused(2, 2, &[5, 3]), Some(Refusal::No(16)));
+    assert_eq!(refused(3, 70, &[0o13, 0o17]), None);
 }
 
 #[test]

@@ -1,27 +1,33 @@
 -- What an order is that its questions pass, by name: what a function may assume that requires an accepted order and does not ask again.
 -- `proofs/Asked.antt` proves that it follows from the questions (`accepted-order`).
 -- Assumes nothing.
-use Prim.Native.Nat.{_≤_, _<_}
+use Prim.Native.Nat.{ℕ, _≤_, _<_}
 use mathlib.Core.Path.{_≡_}
-use mathlib.Core.Bool.{true}
+use mathlib.Core.Bool.{true, false}
+use mathlib.Core.List.{List}
 use lib.ListN.{length}
 use Rattle.lists.specs.Lists.{all, any}
+use Rattle.gcd.specs.SharedFactor.{shareFactor}
 use Rattle.order.specs.Questions.{inRange, hasBit}
 use Rattle.order.specs.Order.{Order}
 use Rattle.order.specs.declared.questions.Takes.{Takes}
 use Rattle.order.specs.declared.questions.Takes.the-variants as T
 
--- questions 3, 4, 5, 8 and 9
-pub record AcceptedCode (o : Order) : Type 0 where
-  pub some-generators : 2 ≤ length (o .generators)
-  pub few-generators : length (o .generators) ≤ 4
-  pub some-memory : 1 ≤ o .v
-  pub small-memory : o .v ≤ 8
-  pub long-enough : o .v ≤ o .N
-  pub at-most-128 : o .N ≤ 128
-  pub in-range : all (inRange (o .v)) (o .generators) ≡ true
-  pub one-has-bit-v : any (hasBit (o .v)) (o .generators) ≡ true
-  pub one-has-bit-0 : any (hasBit 0) (o .generators) ≡ true
+-- questions 3, 4, 5, 8, 9 and 16, of what they are about: whatever else an order has, its code is accepted or not
+pub record CodeAccepted (v N : ℕ) (generators : List ℕ) : Type 0 where
+  pub some-generators : 2 ≤ length generators
+  pub few-generators : length generators ≤ 4
+  pub some-memory : 1 ≤ v
+  pub small-memory : v ≤ 8
+  pub long-enough : v ≤ N
+  pub at-most-128 : N ≤ 128
+  pub in-range : all (inRange v) generators ≡ true
+  pub one-has-bit-v : any (hasBit v) generators ≡ true
+  pub one-has-bit-0 : any (hasBit 0) generators ≡ true
+  pub no-shared-factor : shareFactor generators ≡ false
+
+abbrev pub AcceptedCode : Order → Type 0
+AcceptedCode o = CodeAccepted (o .v) (o .N) (o .generators)
 
 -- 6
 pub record AcceptedDegree (o : Order) : Type 0 where

@@ -1,5 +1,6 @@
 //! The weight of a word, and the encoder with its lent output.
 
+use crate::generators;
 use crate::random::Random;
 use crate::tally::Tally;
 use crate::{number, size, word_answer};
@@ -93,7 +94,7 @@ pub fn first(generators: &[u64; 4], n: u64) -> &[u64] {
 
 pub fn weigh(inputs: u64) -> Tally {
     let mut random = Random::new(0x3E16);
-    let mut tally = Tally::new("weigh", &[3, 4, 5, 8, 9, 12]).with_kind("with m and d wrong");
+    let mut tally = Tally::new("weigh", &[3, 4, 5, 8, 9, 16, 12]).with_kind("with m and d wrong");
     for _ in 0..inputs {
         let i = draw(&mut random);
         let plain = link::weight(i.code(), i.word)
@@ -118,7 +119,8 @@ pub fn weigh(inputs: u64) -> Tally {
 
 pub fn encode(inputs: u64) -> Tally {
     let mut random = Random::new(0xE4C0DE);
-    let mut tally = Tally::new("encode", &[3, 4, 5, 8, 9, 10, 12]).with_kind("with m and d wrong");
+    let mut tally =
+        Tally::new("encode", &[3, 4, 5, 8, 9, 16, 10, 12]).with_kind("with m and d wrong");
     for _ in 0..inputs {
         let i = draw(&mut random);
         let room = draw_room(&mut random, &i);
@@ -186,7 +188,8 @@ fn draw_room(random: &mut Random, i: &Input) -> usize {
 pub fn draw(random: &mut Random) -> Input {
     match random.within(0, 15) {
         0..=7 => right(random),
-        8..=12 => damaged(random),
+        8..=11 => damaged(random),
+        12 => shared(random),
         13 | 14 => wild(random),
         _ => {
             let mut i = right(random);
@@ -209,14 +212,11 @@ pub fn right(random: &mut Random) -> Input {
     let bits = random.length(v);
     let count = 2 + random.index(3);
     let mut generators = [0; 4];
-    for g in &mut generators {
-        *g = random.within(1, (2 << v) - 1);
+    match random.coin() {
+        true => generators.fill_with(|| random.huge(0)),
+        false => generators.fill_with(|| random.within(1, (2 << v) - 1)),
     }
-    if random.coin() {
-        generators[count..].fill_with(|| random.huge(0));
-    }
-    generators[random.index(count)] |= 1 << v;
-    generators[random.index(count)] |= 1;
+    generators[..count].copy_from_slice(&generators::right(random, v, count));
     let word = random.word(bits);
     Input {
         generators,
@@ -266,6 +266,27 @@ fn damaged(random: &mut Random) -> Input {
             .iter_mut()
             .for_each(|g| *g = *g & !1 | 1 << i.v),
         _ => i.word = random.word_above(i.bits),
+    }
+    i
+}
+
+/// A common divisor, every other time with another fault, which a question
+/// before or after 16 asks about.
+fn shared(random: &mut Random) -> Input {
+    let mut i = right(random);
+    let given = size(i.n);
+    i.generators[..given].copy_from_slice(&generators::shared(random, i.v, given));
+    let one = random.index(given);
+    match random.within(0, 11) {
+        0 => i.generators[one] = 0,
+        1 => i.generators[one] <<= i.v + 1,
+        // One is too large, and none has bit 0.
+        2 => i.generators[..given].iter_mut().for_each(|g| *g <<= 1),
+        // None has bit v.
+        3 => (i.v, i.bits) = (8.min(i.v + 1), i.bits.max(8)),
+        4 => i.bits = random.within(129, 200),
+        5 | 6 => i.word = random.word_above(i.bits),
+        _ => {}
     }
     i
 }

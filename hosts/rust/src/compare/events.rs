@@ -32,7 +32,8 @@ type Expected<'a> = Result<&'a [dso_ref::Event], u64>;
 /// Any inputs, right and damaged, of any length.
 pub fn collect(inputs: u64) -> Tally {
     let mut random = Random::new(0xC011EC7);
-    let mut tally = Tally::new("collect", &[3, 4, 5, 7, 8, 9, 10, 13]).with_kind("with m wrong");
+    let mut tally =
+        Tally::new("collect", &[3, 4, 5, 7, 8, 9, 16, 10, 13]).with_kind("with m wrong");
     for _ in 0..inputs {
         let mut call = draw(&mut random);
         let code = call.input.code();

@@ -7,6 +7,9 @@ use crate::size;
 use dohvrin::{Event, WORK};
 use dso_ref::{events, listing};
 
+/// Events and paths that are listed for any order.
+pub const EVENTS: usize = 3000;
+pub const PATHS: usize = 3000;
 /// Steps that the second tool takes without a cut, at most, in a small order.
 const STEPS: usize = 1 << 15;
 
@@ -177,41 +180,24 @@ pub fn draw_size(random: &mut Random, exact: usize, larger: bool) -> usize {
     }
 }
 
+/// Tables of any size, every fourth empty, for a call that a question before 13
+/// refuses.
+pub fn any_tables(random: &mut Random, lent: &mut Sizes) {
+    let mut any = |most| match random.within(0, 3) {
+        0 => 0,
+        _ => random.index(most),
+    };
+    (lent.events, lent.paths) = (any(EVENTS), any(2 * PATHS));
+}
+
 /// A right code of at most `most` steps, and a threshold. Every fourth has no
-/// more steps than memory; every third has generators with a common factor,
-/// most often x+1, of which the word of all ones weighs nothing.
+/// more steps than memory.
 pub fn draw_small(random: &mut Random, most: u64) -> (Input, u64) {
     let mut input = codes::right(random);
     input.bits = match random.within(0, 3) {
         0 => input.v,
         _ => random.within(input.v, most),
     };
-    if random.within(0, 2) == 0 {
-        share_factor(random, &mut input);
-    }
     let most = random.pick(&[12, 64]);
     (input, random.within(1, most))
-}
-
-/// Generators that are products with one polynomial of degree 1 or more.
-fn share_factor(random: &mut Random, input: &mut Input) {
-    let degree = random.within(1, input.v);
-    let factor = match random.within(0, 2) {
-        0 => 1 << degree | random.next() & ((1 << degree) - 1) | 1,
-        _ => 3,
-    };
-    let left = input.v - u64::from(63 - u64::leading_zeros(factor));
-    let given = size(input.n);
-    let mut others: Vec<u64> = (0..given)
-        .map(|_| random.within(1, (2 << left) - 1))
-        .collect();
-    others[random.index(given)] |= 1 << left;
-    others[random.index(given)] |= 1;
-    let times = |other: u64| {
-        let shifted = (0..=left).filter(|j| other >> j & 1 == 1);
-        shifted.fold(0, |sum, j| sum ^ factor << j)
-    };
-    for (g, other) in input.generators.iter_mut().zip(others) {
-        *g = times(other);
-    }
 }

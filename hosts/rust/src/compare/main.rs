@@ -9,6 +9,7 @@
 mod checks;
 mod codes;
 mod events;
+mod generators;
 mod guards;
 mod listed;
 mod orders;

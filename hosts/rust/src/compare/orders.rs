@@ -14,7 +14,7 @@ const SHORT: usize = 10;
 
 pub fn orders(inputs: u64) -> Tally {
     let mut random = Random::new(0x08DE85);
-    let asked = &[1, 2, 3, 4, 5, 6, 7, 8, 9, 13, 14, 15];
+    let asked = &[1, 2, 3, 4, 5, 6, 7, 8, 9, 16, 13, 14, 15];
     let mut tally = Tally::new("orders by record", asked);
     // The same for every order in turn: they hold what the last one left.
     let mut tables = lend(Lent::default());

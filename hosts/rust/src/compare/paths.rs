@@ -3,7 +3,8 @@
 
 use crate::codes::{self, Input};
 use crate::guards::{entry_of, Guarded};
-use crate::listed::{draw, draw_size, draw_sizes, draw_small, Sizes, Tables};
+use crate::listed::{any_tables, draw, draw_size, draw_sizes, draw_small, Sizes, Tables};
+use crate::listed::{EVENTS, PATHS};
 use crate::random::Random;
 use crate::tally::Tally;
 use crate::{number, size};
@@ -11,9 +12,6 @@ use dohvrin::calls::{self, Listing};
 use dohvrin::{Event, Listed, WORK};
 use dso_ref::{events, link, listing};
 
-/// Events and paths that are listed for any order.
-pub const EVENTS: usize = 3000;
-pub const PATHS: usize = 3000;
 /// Events and paths of an order of any length whose whole tables are compared.
 const MANY: usize = 1 << 17;
 
@@ -31,13 +29,13 @@ type Expected<'a> = Result<&'a Tables, u64>;
 /// Any inputs, right and damaged, of any length.
 pub fn list(inputs: u64) -> Tally {
     let mut random = Random::new(0x115794);
-    let mut tally = Tally::new("list", &[3, 4, 5, 7, 8, 9, 10, 13, 14]).with_kind("with m wrong");
+    let mut tally =
+        Tally::new("list", &[3, 4, 5, 7, 8, 9, 16, 10, 13, 14]).with_kind("with m wrong");
     for _ in 0..inputs {
         let (input, d, lent) = draw(&mut random);
         let mut call = Call { input, d, lent };
         if let Err(no) = listing::ask(input.code(), size(d), lent.counts, lent.work) {
-            call.lent.events = random.index(EVENTS);
-            call.lent.paths = random.index(2 * PATHS);
+            any_tables(&mut random, &mut call.lent);
             compare(&mut tally, &call, Err(number(no)));
             continue;
         }
@@ -73,8 +71,7 @@ pub fn list(inputs: u64) -> Tally {
 /// each with tables exactly full, one short, empty, odd, larger, far larger.
 pub fn small_tables(orders: u64) -> Tally {
     let mut random = Random::new(0x5A11A);
-    let mut tally =
-        Tally::new("small path tables", &[10, 13, 14]).with_kind("orders with words of weight 0");
+    let mut tally = Tally::new("small path tables", &[10, 13, 14]).with_kind("orders of N = v");
     for order in 0..orders {
         // Of the longest words there are a great many.
         let most = if order % 100 == 99 {
@@ -84,7 +81,7 @@ pub fn small_tables(orders: u64) -> Tally {
         };
         let (input, d) = draw_small(&mut random, most as u64);
         let tables = Tables::small(input, d);
-        if tables.counts[0] > 0 {
+        if input.bits == input.v {
             tally.count_kind();
         }
         for lent in draw_sizes(&mut random, &tables) {

@@ -1,5 +1,6 @@
 //! Reading an order from any bytes.
 
+use crate::generators;
 use crate::number;
 use crate::random::Random;
 use crate::tally::Tally;
@@ -10,7 +11,7 @@ use dso_ref::Order;
 
 pub fn read_order(inputs: u64) -> Tally {
     let mut random = Random::new(0x0DE8);
-    let mut tally = Tally::new("read_order", &[1, 2, 3, 4, 5, 6, 7, 8, 9]);
+    let mut tally = Tally::new("read_order", &[1, 2, 3, 4, 5, 6, 7, 8, 9, 16]);
     for _ in 0..inputs {
         let bytes = right(&mut random);
         let (bytes, size) = damaged(&mut random, bytes);
@@ -60,9 +61,13 @@ fn order_of(order: Order) -> dohvrin::Order {
 }
 
 /// A right record or what became of it, and how many of the bytes are given;
-/// the others stand behind those in memory and must not matter.
+/// the others stand behind those in memory and must not matter. One in sixteen
+/// has generators with a common divisor, whatever else is wrong.
 pub fn damaged(random: &mut Random, mut bytes: Vec<u8>) -> (Vec<u8>, usize) {
     let mut size = bytes.len();
+    if random.within(0, 15) == 0 {
+        share_factor(random, &mut bytes);
+    }
     match random.within(0, 23) {
         0..=5 => {}
         6 => {
@@ -129,13 +134,19 @@ fn right(random: &mut Random) -> Vec<u8> {
 pub fn record(random: &mut Random, numbers: [u64; 4]) -> Vec<u8> {
     let [v, length, m, d] = numbers;
     let n = 2 + random.index(3);
-    let mut generators: Vec<u16> = (0..n)
-        .map(|_| random.within(1, (2 << v) - 1) as u16)
-        .collect();
-    generators[random.index(n)] |= 1 << v;
-    generators[random.index(n)] |= 1;
+    let generators = generators::right(random, v, n);
+    let generators: Vec<u16> = generators.into_iter().map(|g| g as u16).collect();
     let numbers = [n as u8, v as u8, length as u8, m as u8, d as u8];
     record_bytes(numbers, &generators).expect("at most 4 generators")
+}
+
+/// Generators with a common divisor in a right record.
+fn share_factor(random: &mut Random, bytes: &mut [u8]) {
+    let (n, v) = (bytes[3], bytes[4]);
+    let generators = generators::shared(random, v.into(), n.into());
+    for (pair, g) in bytes[8..].chunks_exact_mut(2).zip(generators) {
+        pair.copy_from_slice(&(g as u16).to_be_bytes());
+    }
 }
 
 /// The length field of a record of `size` bytes in all.

@@ -4,8 +4,7 @@
 
 use crate::codes::{self, Input};
 use crate::guards::entry_of;
-use crate::listed::{draw_size, draw_small, Tables};
-use crate::paths::{EVENTS, PATHS};
+use crate::listed::{any_tables, draw_size, draw_small, Tables, EVENTS, PATHS};
 use crate::random::Random;
 use crate::searched::{compare, draw, draw_polynomial, draw_sizes, full, within, Call};
 use crate::searched::{right_polynomial, wrong_polynomial};
@@ -25,13 +24,13 @@ const LONG_TABLES: usize = 1 << 15;
 
 /// Any orders, right and damaged, of any length.
 pub fn search(inputs: u64) -> Tally {
-    let tally = Tally::new("search", &[3, 4, 5, 6, 7, 8, 9, 10, 13, 14, 15]);
+    let tally = Tally::new("search", &[3, 4, 5, 6, 7, 8, 9, 16, 10, 13, 14, 15]);
     any(inputs, tally, 0x5EA8C4, |_, _| None)
 }
 
 /// The same for the counts of any polynomial, right or damaged.
 pub fn count(inputs: u64) -> Tally {
-    let tally = Tally::new("count", &[3, 4, 5, 6, 7, 8, 9, 10, 11, 13, 14]);
+    let tally = Tally::new("count", &[3, 4, 5, 6, 7, 8, 9, 16, 10, 11, 13, 14]);
     any(inputs, tally, 0xC0147, |random, m| {
         Some(draw_polynomial(random, m))
     })
@@ -47,13 +46,14 @@ fn any(
     for _ in 0..inputs {
         let mut call = draw(&mut random);
         call.of = of(&mut random, call.m);
-        let listing = &mut call.lent.listing;
-        listing.events = EVENTS - random.index(2);
-        listing.paths = random.index(2 * PATHS);
         if let Err(refusal) = call.order() {
+            any_tables(&mut random, &mut call.lent.listing);
             compare(&mut tally, &call, Err(refusal));
             continue;
         }
+        let listing = &mut call.lent.listing;
+        listing.events = EVENTS - random.index(2);
+        listing.paths = random.index(2 * PATHS);
         let (input, d) = (call.input, size(call.d));
         let events = match events::collect(input.code(), d, EVENTS, WORK) {
             Ok(events) => events.iter().map(entry_of).collect::<Vec<_>>(),
@@ -87,8 +87,8 @@ fn any(
 /// one short, empty, odd, larger, far larger.
 pub fn small_tables(orders: u64) -> Tally {
     let mut random = Random::new(0x5A11C);
-    let mut tally = Tally::new("small searches and counts", &[10, 11, 13, 14, 15])
-        .with_kind("orders with a word of weight 0");
+    let mut tally =
+        Tally::new("small searches and counts", &[10, 11, 13, 14, 15]).with_kind("orders of N = v");
     let mut done = 0;
     while done < orders {
         // Of the longest words there are a great many.
@@ -99,7 +99,7 @@ pub fn small_tables(orders: u64) -> Tally {
         }
         let m = random.within(1, 12.min(input.bits - 1));
         let tables = Tables::small(input, d);
-        if tables.counts[0] > 0 {
+        if input.bits == input.v {
             tally.count_kind();
         }
         for of in [None, Some(right_polynomial(&mut random, m))] {

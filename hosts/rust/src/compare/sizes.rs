@@ -15,8 +15,7 @@ const LONG_TABLES: usize = 1 << 20;
 /// and one path short.
 pub fn counted(orders: u64) -> Tally {
     let mut random = Random::new(0xC0947ED);
-    let mut tally =
-        Tally::new("sizes counted before", &[13, 14]).with_kind("of orders with words of weight 0");
+    let mut tally = Tally::new("sizes counted before", &[13, 14]).with_kind("of orders of N = v");
     let mut done = 0;
     while done < orders {
         let (input, d) = match done % 16 {
@@ -52,17 +51,17 @@ fn fits(needed: Entries, input: &Input) -> bool {
 
 fn compare(tally: &mut Tally, input: &Input, d: u64, needed: Entries) {
     let Entries { events, paths } = needed;
-    let (listed, plain) = list(input, d, events, paths);
-    if plain[0] > 0 {
+    let listed = list(input, d, events, paths);
+    if input.bits == input.v {
         tally.count_kind();
     }
     let all = Ok(Listed { events, paths });
     tally.count(0, listed == all, || told(input, d, needed, listed));
-    let (short, _) = list(input, d, events.saturating_sub(1), paths);
+    let short = list(input, d, events.saturating_sub(1), paths);
     let no = Err(Refusal::Events);
     tally.count(13, short == no, || told(input, d, needed, short));
     if paths > 0 {
-        let (short, _) = list(input, d, events, paths - 1);
+        let short = list(input, d, events, paths - 1);
         let no = Err(Refusal::Paths);
         tally.count(14, short == no, || told(input, d, needed, short));
     }
@@ -72,11 +71,10 @@ fn told(input: &Input, d: u64, needed: Entries, listed: Result<Listed, Refusal>)
     format!("{input:?} d {d}: counted {needed}, library {listed:?}")
 }
 
-/// What the library lists into tables of so many entries, and its counts.
-fn list(input: &Input, d: u64, events: usize, paths: usize) -> (Result<Listed, Refusal>, Vec<u64>) {
+/// What the library lists into tables of so many entries.
+fn list(input: &Input, d: u64, events: usize, paths: usize) -> Result<Listed, Refusal> {
     let mut table = vec![Event::default(); events];
     let (mut numbers, mut counts) = (vec![0; 2 * paths], vec![0; size(d)]);
     let work = &mut [0; WORK];
-    let listed = dohvrin::list(input.below(d), &mut table, &mut numbers, &mut counts, work);
-    (listed, counts)
+    dohvrin::list(input.below(d), &mut table, &mut numbers, &mut counts, work)
 }

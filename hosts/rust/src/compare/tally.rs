@@ -10,7 +10,8 @@ pub struct Tally {
     accepted: u64,
     /// Of the accepted, those of which the call says so: its name, how many.
     kind: Option<(&'static str, u64)>,
-    refused: [u64; 16],
+    /// By the question's number.
+    refused: [u64; 17],
     pub passed: u64,
     pub failed: u64,
 }
@@ -22,7 +23,7 @@ impl Tally {
             asked,
             accepted: 0,
             kind: None,
-            refused: [0; 16],
+            refused: [0; 17],
             passed: 0,
             failed: 0,
         }

@@ -52,7 +52,7 @@ impl Numbers {
         Numbers::read(&line.split_whitespace().collect::<Vec<_>>())
     }
 
-    /// The order, where questions 3 to 9 accept it.
+    /// The order, where questions 3 to 9 and 16 accept it.
     pub fn order(&self) -> Result<Order, Refusal> {
         Order::new(&self.generators, self.v, self.bits, self.m, self.d)
     }

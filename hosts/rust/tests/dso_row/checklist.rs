@@ -9,7 +9,8 @@ fn a_row_and_its_points() {
     let points = "
 1. The polynomials written out
    generator 1 is 1
-   generator 3 is x+1
+   generator 3 is x+1, irreducible
+   no factor is shared by all generators
    check 0x5 is x^2+1
 
 2. Every rotation of a path is in the list
@@ -39,6 +40,27 @@ fn a_tie_has_its_polynomials_named() {
     assert!(run
         .out
         .ends_with("best by the listed paths: 0x5 0x7, undetected 1 at 4\n"));
+}
+
+#[test]
+fn generators_have_their_factors() {
+    let run = run("--checklist 2 3 12 3 10 13 17");
+    let point = "
+1. The polynomials written out
+   generator 13 is x^3+x+1, irreducible
+   generator 17 is x^3+x^2+x+1 = (x+1)(x+1)(x+1)
+   no factor is shared by all generators
+   check 0x";
+    assert_eq!(run.status, 0);
+    assert!(run.out.contains(point), "{}", run.out);
+}
+
+#[test]
+fn generators_that_share_a_factor_have_no_checklist() {
+    let run = run("--checklist 2 2 12 3 10 5 3");
+    assert_eq!((run.status, run.out.as_str()), (0, "NO 16\n"));
+    let told = "dso-row: refused by question 16: the generators share a factor\n";
+    assert_eq!(run.err, told);
 }
 
 #[test]

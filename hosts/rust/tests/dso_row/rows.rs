@@ -50,6 +50,11 @@ fn refusals_are_answers() {
     refused("2 1 4 2 65 1 3", "NO 7\n");
     refused("2 1 4 2 6 1 4", "NO 8\n");
     refused("2 1 4 2 6 2 2", "NO 9\n");
+    refused("2 1 4 2 6 3 3", "NO 16\n");
+    refused("2 2 4 2 6 5 3", "NO 16\n");
+    // Before the polynomial and the tables.
+    refused("--of 0x4 2 2 4 2 6 5 3", "NO 16\n");
+    refused("--events 0 --paths 0 2 2 4 2 6 5 3", "NO 16\n");
     refused("--of 0x4 2 1 4 2 6 1 3", "NO 11\n");
     refused("2 1 4 2 5 1 3", "NO 15 2\n");
 }
@@ -97,6 +102,7 @@ fn json() {
     assert_eq!(run("--json 2 1 4 2 6 1 3"), expected);
     assert_eq!(run("2 1 4 2 5 1 3 --json"), "{\"refusal\":15,\"left\":2}\n");
     assert_eq!(run("--json 2 1 4 2 0 1 3"), "{\"refusal\":7}\n");
+    assert_eq!(run("--json 2 1 4 2 6 3 3"), "{\"refusal\":16}\n");
 }
 
 #[test]

@@ -24,7 +24,7 @@ impl Random {
         power | (self.next() % power) | 1
     }
 
-    /// An order that passes questions 3 to 9, within the greatest v, N, m, d.
+    /// An order that passes questions 3 to 9 and 16, within the greatest v, N, m, d.
     pub fn order(&mut self, v: usize, length: usize, m: usize, d: usize) -> Order {
         loop {
             let v = self.from(1, v);

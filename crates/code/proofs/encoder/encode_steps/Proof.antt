@@ -12,7 +12,7 @@ use Rattle.poly.specs.Word.{number}
 use Rattle.poly.proofs.Sum.{bit-lt}
 use Rattle.code.specs.Trellis.{stateAt, tapped}
 use Rattle.code.proofs.Sent.{first-small, sent, sent-none, sent-more, state-more, step-room, at-more, stored-length, all-sent}
-use Rattle.code.proofs.Calls.{fit-of-code}
+use Rattle.code.proofs.Calls.{fit-of-range}
 use Rattle.code.proofs.encoder.encode_steps.Statement.{statement}
 use Rattle.code.proofs.encoder.encode_steps.Tie as tie
 
@@ -125,7 +125,7 @@ returns c =
     let a = start (c .before) .args in
     let p = start (c .before) .pre in
     all-sent (a .v) (a .bits) (a .generators .now) (number (a .word)) (l .t) _ _ (a .output .now) (p .word .code .long-enough) (p .word .fits)
-    (fit-of-code _ (p .word .code)) (omega arith) (p .room) (c .before .before .before .before .before .clear-bytes .ensures) (l .inv .stored)
+    (fit-of-range (a .v) (a .generators .now) (p .word .code .in-range)) (omega arith) (p .room) (c .before .before .before .before .before .clear-bytes .ensures) (l .inv .stored)
 
 pub encode-steps-spec : {M : Type 1} → statement M
 encode-steps-spec =

@@ -1,5 +1,5 @@
 //! What the person who signs a row looks at. All of it is found anew from the
-//! listed paths, by plain means and not by the library.
+//! order and the listed paths, by plain means and not by the library.
 
 mod polynomials;
 mod remainders;
@@ -48,10 +48,10 @@ pub fn write(
     tables: &Tables,
 ) -> io::Result<bool> {
     let paths = Paths::of(order, tables);
-    polynomials::write(out, order.generators(), answer)?;
+    let coprime = polynomials::write(out, order.generators(), answer)?;
     let turned = rotations::write(out, &paths)?;
     let avoided = zero::write(out, order, &paths)?;
     let best = rivals::write(out, order, answer, tables.undetected(), &paths)?;
     out.flush()?;
-    Ok(turned && avoided && best)
+    Ok(coprime && turned && avoided && best)
 }

@@ -1,0 +1,2 @@
+pub mod SharedFactor
+pub mod Model

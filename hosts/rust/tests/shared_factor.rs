@@ -1,0 +1,90 @@
+//! Question 16 of every call that takes a code: after 9, before 10 to 14, and
+//! with nothing changed that was lent.
+
+use dohvrin::{collect, count, encode, list, search, weigh};
+use dohvrin::{AnyOrder, Event, Lent, Order, Refusal, WORK};
+
+/// Both have the factor x+1.
+fn order() -> AnyOrder {
+    AnyOrder::new(&[5, 3], 2, 4, 2, 6)
+}
+
+const NO: Refusal = Refusal::SharedFactor;
+
+#[test]
+fn before_the_output_and_the_word() {
+    let too_wide = 1 << 4;
+    assert_eq!(weigh(order(), too_wide), Err(NO));
+    for room in [7, 8] {
+        let mut output = vec![9; room];
+        assert_eq!(encode(order(), too_wide, &mut output), Err(NO));
+        assert_eq!(output, vec![9; room]);
+    }
+}
+
+/// What a call answers with tables of so many entries and a work area of so many
+/// numbers, none of which it may change.
+fn lent<T>(entries: usize, work: usize, call: impl Fn(Lent) -> T) -> T {
+    let held = Event {
+        state: 9,
+        ..Event::default()
+    };
+    let (mut events, mut work) = (vec![held; entries], vec![9; work]);
+    let mut numbers = [vec![9; 2 * entries], vec![9; entries], vec![9; entries]];
+    let before = (events.clone(), numbers.clone(), work.clone());
+    let [paths, plain, undetected] = &mut numbers;
+    let answer = call(Lent {
+        events: &mut events,
+        paths,
+        plain,
+        undetected,
+        work: &mut work,
+    });
+    assert!((events, numbers, work) == before);
+    answer
+}
+
+#[test]
+fn before_the_tables_and_the_polynomial() {
+    // Nothing lent, a work area one short, tables that are too small, enough.
+    for (entries, work) in [(0, 0), (100, WORK - 1), (6, WORK), (100, WORK)] {
+        let collected = |l: Lent| collect(order(), l.events, l.work);
+        assert_eq!(lent(entries, work, collected), Err(NO));
+        let listed = |l: Lent| list(order(), l.events, l.paths, l.plain, l.work);
+        assert_eq!(lent(entries, work, listed), Err(NO));
+        assert_eq!(lent(entries, work, |l| search(order(), l)), Err(NO));
+        for polynomial in [0x5, 0x4] {
+            let counted = |l: Lent| count(order(), polynomial, l);
+            assert_eq!(lent(entries, work, counted), Err(NO));
+        }
+    }
+}
+
+#[test]
+fn after_questions_8_and_9() {
+    let weighed = |generators: &[u64], v| weigh(AnyOrder::new(generators, v, 4, 2, 6), 0);
+    assert_eq!(weighed(&[5, 3, 0], 2), Err(Refusal::Generator));
+    assert_eq!(weighed(&[6, 6], 1), Err(Refusal::Generator));
+    assert_eq!(weighed(&[6, 2], 2), Err(Refusal::GeneratorEnds));
+    assert_eq!(weighed(&[5, 3], 3), Err(Refusal::GeneratorEnds));
+    assert_eq!(weighed(&[5, 3], 2), Err(NO));
+}
+
+#[test]
+fn only_the_first_n_generators_count() {
+    let behind = |g| AnyOrder {
+        generators: [5, 3, g, g],
+        ..order()
+    };
+    assert_eq!(weigh(behind(1), 0), Err(NO));
+    assert_eq!(weigh(AnyOrder { n: 3, ..behind(1) }, 0), Ok(0));
+    assert_eq!(weigh(AnyOrder { n: 3, ..behind(5) }, 0), Err(NO));
+}
+
+#[test]
+fn in_a_record() {
+    let bytes = [0, 10, 1, 2, 2, 4, 2, 6, 0, 5, 0, 3];
+    assert_eq!(Order::from_record(&bytes), Err(NO));
+    let coprime = [0, 10, 1, 2, 2, 4, 2, 6, 0, 5, 0, 7];
+    assert!(Order::from_record(&coprime).is_ok());
+}
