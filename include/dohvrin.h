@@ -1,5 +1,6 @@
 /*
-  dohvrin.h -- tail-biting convolutional links and their check polynomials
+  dohvrin.h -- tail-biting and terminated convolutional links and their check
+  polynomials
 
   Notation
   --------
@@ -14,28 +15,39 @@
   A word u has N bits (v to 128; from 1 where a call takes no v), and N is the
   parameter `bits`. Bit 0 is the first input. A word is passed in two 64-bit
   halves, the low half first: u = high * 2^64 + low. Up to N = 64, high is 0.
-  The code is tail-biting: the output of generator g is u times g modulo
-  x^N+1, and the weight of u is the number of ones in all n outputs.
+
+  A link is of one of two kinds, which the version of an order says. On a
+  tail-biting link (1) the word's own end comes before its start: the output of
+  generator g is u times g modulo x^N+1, over N steps. On a terminated link (2)
+  v zeros follow the word: the output is the ordinary product of u and g, over
+  N+v steps (up to 136). On both the weight of u is the number of ones in all n
+  outputs, and words have N bits: the zeros of a terminated link are no part of
+  them. Word 7 of the generators 1 and 3 at N = 3 weighs 3 tail-biting and 5
+  terminated.
 
   A state is the last v inputs, the latest as bit 0: the input b leads from the
   state s to (2s + b) mod 2^v, and the step weighs as many as the generators
   put out ones in it. An event of the state i is a walk of 1 to N steps from i
   back to i whose states in between are all greater than i. Its input number
   has the first input as bit 0. The zero loop at the state 0 is an event.
+  On a terminated link every walk begins and ends at the state 0, and only that
+  state has events, of 1 to N+v steps; nothing is rotated. Their inputs have at
+  most N bits, since a nonzero one ends in v zeros.
   A path is a word, not zero, of weight below the threshold d (1 to 64).
 
   A check polynomial has degree m (1 to 12, below N) and constant term 1. It
   turns a message of K = N - m bits into a word of N bits: the message stands
   in the upper K bits, its remainder in the lower m.
 
-  An order is n, v, N, m, d and the generators, in one struct that the calls
-  take by value. Any numbers in it are answered. Of its four generators a call
-  looks at the first n, and at none where n is not 2 to 4.
+  An order is a version, n, v, N, m, d and the generators, in one struct that
+  the calls take by value. Any numbers in it are answered. Of its four
+  generators a call looks at the first n, and at none where n is not 2 to 4.
 
   The best polynomial of degree m is the one under which the fewest paths pass
   the check unseen: of two, the one with fewer undetected paths at the lowest
   weight where they differ. Its row is the order, how many events and paths
-  there are, both counts of every weight below d, and the polynomial.
+  there are, both counts of every weight below d, and the polynomial. A row's
+  text does not say the kind of link.
 
   A program
   ---------
@@ -47,7 +59,8 @@
       static uint8_t text[DOHVRIN_TEXT];
 
       int main(void) {
-          const struct dohvrin_order order = {.n = 2, .v = 1, .bits = 4, .m = 2, .d = 6,
+          const struct dohvrin_order order = {.version = DOHVRIN_TAIL_BITING,
+                                              .n = 2, .v = 1, .bits = 4, .m = 2, .d = 6,
                                               .g1 = 01, .g2 = 03};  // octal, as 0 leads in C
           const struct dohvrin_tables tables = {
               .events = events, .event_entries = 512,
@@ -83,19 +96,20 @@
   Refusals
   --------
   Every call answers every input. It asks the questions that concern what it
-  takes, in the order of the table, where 16 stands after 9, and the first no is
-  the refusal; 0 says that there was none. Of an order, weigh and encode do not
-  take m and d, collect and list do not take m: there they may be anything. The
-  one exception is row_text, which asks only 3, 7 and 10: a row is printed as it
-  is told, for an order that a call has accepted before. A refused call has no
-  other result: the rest of its answer is 0, and what was lent to it is as it
-  was; after 13 and 14, it is 0. Only 15 says more, and leaves more: see
-  dohvrin_search.
+  takes, in the order of the table, where 16 stands after 9, and the first no
+  is the refusal; 0 says that there was none. Of an order, weigh and encode do
+  not take m and d, collect and list do not take m: there they may be anything.
+  The one exception is row_text, which asks only 2, 3, 7 and 10: a row is
+  printed as it is told, for an order that a call has accepted before. A
+  refused call has no other result: the rest of its answer is 0, and what was
+  lent to it is as it was; after 13 and 14, it is 0. Only 15 says more, and
+  leaves more: see dohvrin_search.
 
       no.  question                                                 asked by
        1   Are there 2 bytes, and does the length in them equal
            the number of bytes after them?                          read_order
-       2   Is there a version byte, and is it 1?                    read_order
+       2   Is the version 1 or 2? (In a record: is there a version  as 3
+           byte, too?)
        3   Are there 2 to 4 generators: is n from 2 to 4? (In a     weigh encode
            record: is n there, too, and is the length 6 + 2n?)      collect list
                                                                     search count
@@ -119,7 +133,8 @@
        9   Has some generator bit v, and some generator (the same
            one or another) bit 0?                                   as 4
       16   Is 1 the only polynomial that divides every generator?   as 4
-      10   Has the output at least n times N bytes?                 encode
+      10   Has the output at least n bytes for each step: n times N encode
+           of them, or n times N+v on a terminated link?
            Has the work area at least 8,192 numbers?                collect list
                                                                     search count
            Has each list of counts at least d entries?              list search
@@ -171,8 +186,13 @@ struct dohvrin_answer {
     uint64_t high;    /* and its bits 64 to 127 */
 };
 
+/* The kinds of link, as an order's version says them. */
+#define DOHVRIN_TAIL_BITING 1
+#define DOHVRIN_TERMINATED 2
+
 /* An order, as the calls take it. The comments say what no question refuses. */
 struct dohvrin_order {
+    uint64_t version;        /* the kind of link: 1 tail-biting, 2 terminated */
     uint64_t n;              /* how many generators, 2 to 4 */
     uint64_t v;              /* the memory, 1 to 8 */
     uint64_t bits;           /* N, the bits of a word, v to 128 */
@@ -190,7 +210,7 @@ struct dohvrin_order_answer {
 /* An entry of an event table. A table's entries after its events are all 0. */
 struct dohvrin_event {
     uint64_t state;  /* the state that it leaves and comes back to */
-    uint64_t length; /* its steps, 1 to N: an entry with length 0 is no event */
+    uint64_t length; /* its steps, 1 to N (N+v): an entry with length 0 is no event */
     uint64_t weight; /* its weight, below d */
     uint64_t low;    /* its input number: bits 0 to 63 */
     uint64_t high;   /* and bits 64 to 127 */
@@ -254,8 +274,9 @@ struct dohvrin_answer dohvrin_test(uint64_t bits, uint64_t m, uint64_t polynomia
 
 /*
   Weighs a word of N bits under the order's code; m and d do not matter.
-  Accepted: value is the weight, 0 to n times N. Refusals: 3, 4, 5, 8, 9, 16,
-  12 (the word is not below 2^N).
+  Accepted: value is the weight, 0 to n times N, or to n times N+v on a
+  terminated link. Refusals: 2, 3, 4, 5, 8, 9, 16, 12 (the word is not below
+  2^N).
 */
 struct dohvrin_answer dohvrin_weigh(struct dohvrin_order order, uint64_t low, uint64_t high);
 
@@ -263,24 +284,26 @@ struct dohvrin_answer dohvrin_weigh(struct dohvrin_order order, uint64_t low, ui
   Encodes a word of N bits under the order's code; m and d do not matter.
   Accepted: the answer is 0 and the output holds the codeword, n bits for each
   step from the word's bit 0 on, the first generator first, each bit a byte 0
-  or 1; the bytes from n times N on, up to `size`, are 0. The answer is else
-  the number of the refusal, and the output is as it was: 3, 4, 5, 8, 9, 16, 10
-  (size is below n times N), 12 (the word is not below 2^N). That the pointer
-  has `size` bytes cannot be checked.
+  or 1. It has n times N bytes, or on a terminated link, whose last v steps
+  take the zeros after the word, n times N+v; those after it, up to `size`, are
+  0. The answer is else the number of the refusal, and the output is as it was:
+  2, 3, 4, 5, 8, 9, 16, 10 (size is below the codeword's bytes), 12 (the word
+  is not below 2^N). That the pointer has `size` bytes cannot be checked.
 */
 uint64_t dohvrin_encode(struct dohvrin_order order, uint64_t low, uint64_t high,
                         uint8_t *output, size_t size);
 
 /*
   Collects the events of weight below d of the order's code, on walks of at
-  most N steps; m does not matter. Accepted: value is their number; the table
-  has them first, ordered by state, length and input number, its entries after
-  them are 0, and the work area is 0 throughout. Refusal 13, there are more
-  events than entries: table and work area are 0 throughout. Other refusals: 3,
-  4, 5, 7, 8, 9, 16, 10 (work_numbers is below DOHVRIN_WORK); then table and
-  work area are as they were. What they held before the call does not matter.
-  That the pointers have as many events and numbers as is said, and that table
-  and work area do not overlap, cannot be checked.
+  most N steps, or on a terminated link those of the state 0 alone, on walks of
+  at most N+v steps; m does not matter. Accepted: value is their number; the
+  table has them first, ordered by state, length and input number, its entries
+  after them are 0, and the work area is 0 throughout. Refusal 13, there are
+  more events than entries: table and work area are 0 throughout. Other
+  refusals: 2, 3, 4, 5, 7, 8, 9, 16, 10 (work_numbers is below DOHVRIN_WORK);
+  then table and work area are as they were. What they held before the call
+  does not matter. That the pointers have as many events and numbers as is
+  said, and that table and work area do not overlap, cannot be checked.
 */
 struct dohvrin_answer dohvrin_collect(struct dohvrin_order order, struct dohvrin_event *events,
                                       size_t event_entries, uint64_t *work,
@@ -296,11 +319,11 @@ struct dohvrin_answer dohvrin_collect(struct dohvrin_order order, struct dohvrin
   weight from 0 to d - 1, and are 0 after that. The event table is as
   dohvrin_collect leaves it, and the work area is 0 throughout. Refusals 13,
   there are more events than entries, and 14, there are more paths than pairs
-  of numbers: all four tables are 0 throughout. Other refusals: 3, 4, 5, 7, 8,
-  9, 16, 10 (plain_entries is below d, or work_numbers is below DOHVRIN_WORK);
-  then all four are as they were. What they held before the call does not matter.
-  That the pointers have as many entries and numbers as is said, and that none
-  of the tables overlaps another, cannot be checked.
+  of numbers: all four tables are 0 throughout. Other refusals: 2, 3, 4, 5, 7,
+  8, 9, 16, 10 (plain_entries is below d, or work_numbers is below
+  DOHVRIN_WORK); then all four are as they were. What they held before the call
+  does not matter. That the pointers have as many entries and numbers as is
+  said, and that none of the tables overlaps another, cannot be checked.
 */
 struct dohvrin_listing dohvrin_list(struct dohvrin_order order, struct dohvrin_event *events,
                                     size_t event_entries, uint64_t *paths, size_t path_numbers,
@@ -322,19 +345,20 @@ struct dohvrin_part dohvrin_part(const uint64_t *paths, size_t path_numbers,
 
 /*
   Searches for the order's best check polynomial: of degree m, for words of N
-  bits, by the paths of weight below d. Accepted: the answer has the polynomial,
-  and says how many events and paths there are. Event table, path table, plain
-  counts and work area are as dohvrin_list leaves them. The undetected counts
-  say how many of the paths of each weight from 0 to d - 1 the polynomial
-  divides, and are 0 after that. Refusal 15, several are best: `left` says how
-  many, the rest of the answer is 0; the tables and plain counts are as an
-  accepted call leaves them, and the undetected counts are those that the best
-  ones share. Refusals 13, there are more events than entries, and 14, there are
-  more paths than pairs of numbers: all five are 0 throughout. Other refusals: 3
-  to 9, 16, 10 (plain_entries or undetected_entries is below d, or work_numbers
-  is below DOHVRIN_WORK); then all five are as they were. What they held before
-  the call does not matter. That the pointers have as many entries and numbers
-  as is said, and that none of the tables overlaps another, cannot be checked.
+  bits, by the paths of weight below d. Accepted: the answer has the
+  polynomial, and says how many events and paths there are. Event table, path
+  table, plain counts and work area are as dohvrin_list leaves them. The
+  undetected counts say how many of the paths of each weight from 0 to d - 1
+  the polynomial divides, and are 0 after that. Refusal 15, several are best:
+  `left` says how many, the rest of the answer is 0; the tables and plain
+  counts are as an accepted call leaves them, and the undetected counts are
+  those that the best ones share. Refusals 13, there are more events than
+  entries, and 14, there are more paths than pairs of numbers: all five are 0
+  throughout. Other refusals: 2 to 9, 16, 10 (plain_entries or
+  undetected_entries is below d, or work_numbers is below DOHVRIN_WORK); then
+  all five are as they were. What they held before the call does not matter.
+  That the pointers have as many entries and numbers as is said, and that none
+  of the tables overlaps another, cannot be checked.
 */
 struct dohvrin_row dohvrin_search(struct dohvrin_order order, struct dohvrin_event *events,
                                   size_t event_entries, uint64_t *paths, size_t path_numbers,
@@ -358,16 +382,16 @@ struct dohvrin_listing dohvrin_count(struct dohvrin_order order, uint64_t polyno
 
 /*
   Writes the row of an order: ORDER with n, v, N, m, d and the generators in
-  octal; EVENTS; PATHS; for each weight from 0 to d - 1 a line A with the weight
-  and both counts; CRC with the polynomial in hexadecimal. Accepted: value is
-  the number of its bytes, which the text begins with; each line ends with a
-  line feed, and the bytes after the last are 0. Nothing is computed, and the
-  row is printed as it is told, for an order that a call has accepted before:
-  of all questions only 3, 7, and 10 (plain_entries or undetected_entries is
-  below d, or size is below DOHVRIN_TEXT) are asked, and their refusals leave
-  the text as it was. The other numbers may be any. The counts are only read;
-  that the pointers have as many as is said, and that the text overlaps none of
-  them, cannot be checked.
+  octal, but not the version; EVENTS; PATHS; for each weight from 0 to d - 1 a
+  line A with the weight and both counts; CRC with the polynomial in
+  hexadecimal. Accepted: value is the number of its bytes, which the text
+  begins with; each line ends with a line feed, and the bytes after the last
+  are 0. Nothing is computed, and the row is printed as it is told, for an
+  order that a call has accepted before: of all questions only 2, 3, 7, and 10
+  (plain_entries or undetected_entries is below d, or size is below
+  DOHVRIN_TEXT) are asked, and their refusals leave the text as it was. The
+  other numbers may be any. The counts are only read; that the pointers have as
+  many as is said, and that the text overlaps none of them, cannot be checked.
 */
 struct dohvrin_answer dohvrin_row_text(struct dohvrin_order order, uint64_t events,
                                        uint64_t paths, uint64_t polynomial,
@@ -387,10 +411,11 @@ struct dohvrin_answer dohvrin_refusal_text(uint64_t number, uint64_t left, uint8
 
 /*
   Reads an order from a record of `size` bytes: the length of what follows it
-  in 2 bytes, the higher first; version 1; n, v, N, m and d, a byte each; n
-  generators of 2 bytes, the higher first. Accepted: the order, in which the
-  calls above find nothing to refuse. Refusals: 1 to 9 and 16, in this order. The
-  bytes are only read; that the pointer has `size` of them cannot be checked.
+  in 2 bytes, the higher first; the version, n, v, N, m and d, a byte each; n
+  generators of 2 bytes, the higher first. Version 1 is a tail-biting link, 2 a
+  terminated one. Accepted: the order, in which the calls above find nothing to
+  refuse. Refusals: 1 to 9 and 16, in this order. The bytes are only read; that
+  the pointer has `size` of them cannot be checked.
 */
 struct dohvrin_order_answer dohvrin_read_order(const uint8_t *bytes, size_t size);
 

@@ -2,7 +2,7 @@
 //! library's, and plain Rust's.
 
 use crate::orders::Order;
-use crate::plain;
+use crate::plain::{self, search::Best};
 use dohvrin::{Event, Listed, Searched, WORK};
 
 pub struct Lent {
@@ -54,7 +54,7 @@ pub fn library_collect(lent: &mut Lent) -> Option<usize> {
 
 pub fn plain_collect(lent: &mut Lent) -> Option<usize> {
     let o = &lent.order;
-    plain::events::collect(&o.generators, o.v, o.bits, o.d, &mut lent.events)
+    plain::events::collect(o.code(), o.d, &mut lent.events)
 }
 
 pub fn library_list(lent: &mut Lent) -> Option<usize> {
@@ -68,9 +68,7 @@ pub fn library_list(lent: &mut Lent) -> Option<usize> {
 pub fn plain_list(lent: &mut Lent) -> Option<usize> {
     let o = &lent.order;
     plain::paths::list(
-        &o.generators,
-        o.v,
-        o.bits,
+        o.code(),
         o.d,
         &mut lent.events,
         &mut lent.words,
@@ -78,7 +76,8 @@ pub fn plain_list(lent: &mut Lent) -> Option<usize> {
     )
 }
 
-pub fn library_search(lent: &mut Lent) -> Option<(usize, u64)> {
+/// The best polynomial, or how many are best: none where a table is too small.
+pub fn library_search(lent: &mut Lent) -> Option<Best> {
     let o = &lent.order;
     let all = dohvrin::Lent {
         events: &mut lent.events,
@@ -88,17 +87,16 @@ pub fn library_search(lent: &mut Lent) -> Option<(usize, u64)> {
         work: &mut lent.work,
     };
     match dohvrin::search(o.given(), all) {
-        Ok(Searched::Found(found)) => Some((found.paths, found.polynomial)),
-        _ => None,
+        Ok(Searched::Found(found)) => Some(Best::One(found.polynomial)),
+        Ok(Searched::Tied(left)) => Some(Best::Several(left)),
+        Err(_) => None,
     }
 }
 
-pub fn plain_search(lent: &mut Lent) -> Option<(usize, u64)> {
+pub fn plain_search(lent: &mut Lent) -> Option<Best> {
     let o = &lent.order;
     plain::search::search(
-        &o.generators,
-        o.v,
-        o.bits,
+        o.code(),
         o.m,
         o.d,
         &mut lent.events,

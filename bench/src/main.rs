@@ -16,8 +16,9 @@ mod small;
 mod turns;
 mod words;
 
+use dohvrin::Link;
 use lent::Lent;
-use orders::{Order, BY_D, BY_N, MIDDLE, TABLE_1, TABLE_2};
+use orders::{Order, BY_D, BY_N, MIDDLE, TABLE_1, TABLE_2, TERMINATED};
 use std::fmt::Debug;
 use std::process::ExitCode;
 use turns::{time, Turns};
@@ -59,6 +60,7 @@ fn main() -> ExitCode {
 fn searches(turns: usize) {
     head("The whole search", "paths", RACE);
     search(turns, name_of, &[TABLE_1, TABLE_2]);
+    search(turns, name_of, &TERMINATED);
 }
 
 /// Whole runs of `dso-row`.
@@ -77,7 +79,7 @@ fn runs(turns: usize) {
 
 fn listings(turns: usize) {
     head("Listing paths, its collection included", "paths", RACE);
-    for order in [TABLE_1, TABLE_2] {
+    for order in [TABLE_1, TABLE_2].into_iter().chain(TERMINATED) {
         let times = race(turns, order, lent::library_list, lent::plain_list);
         row(&name_of(&order), order.paths, &times);
     }
@@ -86,7 +88,14 @@ fn listings(turns: usize) {
 /// So few turns of the large one, so many of the others.
 fn collections(few: usize, many: usize) {
     head("Collecting error events", "events", RACE);
-    for (turns, order) in [(many, TABLE_1), (many, MIDDLE), (few, TABLE_2)] {
+    let [terminated_1, terminated_2] = TERMINATED;
+    for (turns, order) in [
+        (many, TABLE_1),
+        (many, MIDDLE),
+        (few, TABLE_2),
+        (many, terminated_1),
+        (many, terminated_2),
+    ] {
         let times = race(turns, order, lent::library_collect, lent::plain_collect);
         row(&name_of(&order), order.events, &times);
     }
@@ -139,7 +148,11 @@ fn race<T: Debug + PartialEq>(
 fn name_of(order: &Order) -> String {
     let [g1, g2] = order.generators;
     let Order { bits, m, d, .. } = order;
-    format!("{g1:o}, {g2:o} · N={bits} · m={m} · d={d}")
+    let link = match order.link {
+        Link::TailBiting => String::new(),
+        link => format!(" · {link}"),
+    };
+    format!("{g1:o}, {g2:o} · N={bits} · m={m} · d={d}{link}")
 }
 
 fn head(title: &str, size: &str, [one, other]: [&str; 2]) {

@@ -1,9 +1,11 @@
 //! The orders that are timed, and how many events and paths they have.
 
-use dohvrin::AnyOrder;
+use dohvrin::{AnyOrder, Link};
+use dso_ref::link::Code;
 
 #[derive(Clone, Copy)]
 pub struct Order {
+    pub link: Link,
     pub generators: [u64; 2],
     pub v: u64,
     pub bits: u64,
@@ -16,7 +18,27 @@ pub struct Order {
 impl Order {
     /// The order as the library takes it.
     pub fn given(&self) -> AnyOrder {
-        AnyOrder::new(&self.generators, self.v, self.bits, self.m, self.d)
+        AnyOrder::new(&self.generators, self.v, self.bits, self.m, self.d).with_link(self.link)
+    }
+
+    /// Its code, as plain Rust takes it.
+    pub fn code(&self) -> Code<'_> {
+        Code {
+            version: self.link.version(),
+            memory: self.v as usize,
+            length: self.bits as usize,
+            generators: &self.generators,
+        }
+    }
+
+    /// The same order on a terminated link, where it has so many events and paths.
+    const fn terminated(self, events: usize, paths: usize) -> Order {
+        Order {
+            link: Link::Terminated,
+            events,
+            paths,
+            ..self
+        }
     }
 }
 
@@ -25,6 +47,7 @@ pub const TABLE_1: Order = order_13_17(70, 18, 15_852, 1_940_785);
 
 /// Document 004, Table II, m = 12.
 pub const TABLE_2: Order = Order {
+    link: Link::TailBiting,
     generators: [0o561, 0o753],
     v: 8,
     bits: 76,
@@ -34,8 +57,15 @@ pub const TABLE_2: Order = Order {
     paths: 882_816,
 };
 
+/// Both on a terminated link. The second has no best polynomial: 89 detect all.
+pub const TERMINATED: [Order; 2] = [
+    TABLE_1.terminated(11_561, 1_627_283),
+    TABLE_2.terminated(11_617, 673_899),
+];
+
 /// More states than 13, 17 and fewer events than 561, 753.
 pub const MIDDLE: Order = Order {
+    link: Link::TailBiting,
     generators: [0o133, 0o171],
     v: 6,
     bits: 70,
@@ -61,6 +91,7 @@ pub const BY_D: [Order; 4] = [
 
 const fn order_13_17(bits: u64, d: u64, events: usize, paths: usize) -> Order {
     Order {
+        link: Link::TailBiting,
         generators: [0o13, 0o17],
         v: 3,
         bits,

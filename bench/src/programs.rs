@@ -4,6 +4,7 @@
 use crate::clock::programs_nanoseconds;
 use crate::lent::{self, Lent};
 use crate::orders::Order;
+use crate::plain::search::Best;
 use crate::turns::{time, Turns};
 use std::process::Command;
 use std::time::Instant;
@@ -30,7 +31,8 @@ pub fn orders() -> usize {
 pub fn beside_the_call(turns: usize, order: Order) -> Turns {
     let [g1, g2] = order.generators.map(|g| format!("{g:o}"));
     let numbers = [2, order.v, order.bits, order.m, order.d].map(|number| number.to_string());
-    let mut arguments = numbers.to_vec();
+    let mut arguments = vec![order.link.to_string()];
+    arguments.extend(numbers);
     arguments.extend([g1, g2]);
     let mut lent = Lent::new(order);
     let mut times = Turns::default();
@@ -39,12 +41,11 @@ pub fn beside_the_call(turns: usize, order: Order) -> Turns {
         let printed = dso_row(&arguments);
         let program = (programs_nanoseconds() - before) as f64;
         let (library, found) = time(|| lent::library_search(&mut lent));
-        let (paths, polynomial) = found.expect("a row");
-        assert!(printed.contains(&format!("PATHS {paths}\n")), "{printed}");
-        assert!(
-            printed.ends_with(&format!("CRC 0x{polynomial:X}\n")),
-            "{printed}"
-        );
+        let last = match found.expect("tables large enough") {
+            Best::One(polynomial) => format!("CRC 0x{polynomial:X}\n"),
+            Best::Several(left) => format!("NO 15 {left}\n"),
+        };
+        assert!(printed.ends_with(&last), "{printed}");
         times.push(program, library);
     }
     times

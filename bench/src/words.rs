@@ -2,7 +2,7 @@
 
 use crate::plain;
 use crate::turns::{time, Turns};
-use dohvrin::AnyOrder;
+use dohvrin::{AnyOrder, Link};
 use dso_ref::link::{self, Code};
 use std::fmt::Debug;
 use std::hint::black_box;
@@ -14,9 +14,11 @@ const GENERATORS: [u64; 2] = [0o13, 0o17];
 const MEMORY: u64 = 3;
 const POLYNOMIAL: u64 = 0x180F;
 const DEGREE: u64 = 12;
+/// The bytes of the longest codeword, of 128 bits on a tail-biting link.
+const OUTPUT: usize = 256;
 
 /// Each kind of call with its times.
-pub fn all(turns: usize) -> [(&'static str, Turns); 7] {
+pub fn all(turns: usize) -> [(&'static str, Turns); 9] {
     let m = DEGREE as usize;
     let test = |word| dohvrin::test(128, DEGREE, black_box(POLYNOMIAL), word).ok();
     let same = |word| plain::words::test(128, m, black_box(POLYNOMIAL), word).ok();
@@ -29,9 +31,17 @@ pub fn all(turns: usize) -> [(&'static str, Turns); 7] {
         ),
         ("strip, 128 bits, degree 12", strip(turns)),
         ("append, 128 bits, degree 12", append(turns)),
-        ("weigh, 70 bits", weigh(turns, 70)),
-        ("weigh, 128 bits", weigh(turns, 128)),
-        ("encode, 128 bits", encode(turns)),
+        ("weigh, 70 bits", weigh(turns, Link::TailBiting, 70)),
+        ("weigh, 128 bits", weigh(turns, Link::TailBiting, 128)),
+        ("encode, 128 bits", encode(turns, Link::TailBiting, 128)),
+        (
+            "weigh, 70 bits, terminated",
+            weigh(turns, Link::Terminated, 70),
+        ),
+        (
+            "encode, 70 bits, terminated",
+            encode(turns, Link::Terminated, 70),
+        ),
     ]
 }
 
@@ -62,35 +72,41 @@ fn append(turns: usize) -> Turns {
     )
 }
 
-fn weigh(turns: usize, bits: u64) -> Turns {
+fn weigh(turns: usize, link: Link, bits: u64) -> Turns {
     race(
         turns,
         bits,
-        |word| dohvrin::weigh(given(bits), word).ok(),
-        |word| plain::words::weigh(code(bits), word).ok().map(u64::from),
+        |word| dohvrin::weigh(given(link, bits), word).ok(),
+        |word| {
+            let weight = plain::words::weigh(code(link, bits), word);
+            weight.ok().map(u64::from)
+        },
     )
 }
 
-fn encode(turns: usize) -> Turns {
-    let (mut ours, mut theirs) = ([0; 256], [0; 256]);
+/// Into an output of just the codeword's size.
+fn encode(turns: usize, link: Link, bits: u64) -> Turns {
+    let size = 2 * link.steps(MEMORY, bits) as usize;
+    let (mut ours, mut theirs) = ([0; OUTPUT], [0; OUTPUT]);
     race(
         turns,
-        128,
+        bits,
         |word| {
-            let answer = dohvrin::encode(given(128), word, &mut ours);
+            let answer = dohvrin::encode(given(link, bits), word, &mut ours[..size]);
             answer.is_ok().then_some(black_box(ours))
         },
         |word| {
-            let answer = plain::words::encode(code(128), word, &mut theirs);
+            let answer = plain::words::encode(code(link, bits), word, &mut theirs[..size]);
             answer.is_ok().then_some(black_box(theirs))
         },
     )
 }
 
 /// The code as the library takes it, and as the second tool does.
-fn given(bits: u64) -> AnyOrder {
+fn given(link: Link, bits: u64) -> AnyOrder {
     let [g1, g2] = *black_box(&GENERATORS);
     AnyOrder {
+        version: link.version(),
         n: 2,
         v: MEMORY,
         bits,
@@ -100,8 +116,9 @@ fn given(bits: u64) -> AnyOrder {
     }
 }
 
-fn code(bits: u64) -> Code<'static> {
+fn code(link: Link, bits: u64) -> Code<'static> {
     Code {
+        version: link.version(),
         memory: MEMORY as usize,
         length: bits as usize,
         generators: black_box(&GENERATORS),

@@ -4,7 +4,7 @@
   collects the events of each and prints the first of them, lists its paths
   (how many there are of each weight, and the heaviest of them), counts those
   that pass the check unseen, and prints the row of the best polynomial.
-  Without arguments it takes the six records below.
+  Without arguments it takes the eight records below.
 */
 #include <inttypes.h>
 #include <stdio.h>
@@ -16,9 +16,9 @@
 /* The layout that the library was compiled with. */
 _Static_assert(sizeof(struct dohvrin_answer) == 32, "four 64-bit numbers");
 _Static_assert(offsetof(struct dohvrin_answer, high) == 24, "without gaps");
-_Static_assert(sizeof(struct dohvrin_order) == 72, "nine 64-bit numbers");
-_Static_assert(offsetof(struct dohvrin_order, g4) == 64, "without gaps");
-_Static_assert(sizeof(struct dohvrin_order_answer) == 80, "ten 64-bit numbers");
+_Static_assert(sizeof(struct dohvrin_order) == 80, "ten 64-bit numbers");
+_Static_assert(offsetof(struct dohvrin_order, g4) == 72, "without gaps");
+_Static_assert(sizeof(struct dohvrin_order_answer) == 88, "eleven 64-bit numbers");
 _Static_assert(offsetof(struct dohvrin_order_answer, order) == 8, "without gaps");
 _Static_assert(sizeof(struct dohvrin_event) == 40, "five 64-bit numbers");
 _Static_assert(offsetof(struct dohvrin_event, high) == 32, "without gaps");
@@ -29,7 +29,7 @@ _Static_assert(offsetof(struct dohvrin_row, left) == 32, "without gaps");
 _Static_assert(sizeof(struct dohvrin_part) == 24, "three 64-bit numbers");
 _Static_assert(offsetof(struct dohvrin_part, numbers) == 16, "without gaps");
 
-enum { MOST_BYTES = 64, MOST_OUTPUT = 4 * 128, ENTRIES = 16000, PATHS = 16000, SHOWN = 5 };
+enum { MOST_BYTES = 64, MOST_OUTPUT = 4 * (128 + 8), ENTRIES = 16000, PATHS = 16000, SHOWN = 5 };
 
 /* Lent to one call after another, none of which needs what they hold. */
 static struct dohvrin_event events[ENTRIES];
@@ -51,8 +51,10 @@ static const char *const records[] = {
     "000A01020104020700010003", /* n 2, v 1, N 4, m 2, d 7, generators 1, 3 */
     "000A01020104020400010003", /* the same with d = 4 */
     "000A010203460612000B000F", /* n 2, v 3, N 70, m 6, d 18, generators 13, 17 octal */
+    "000A02020103020600010003", /* the first on a terminated link, with d = 6 */
     "000A01020181020700010003", /* the second with N = 129 */
     "000A01020104020700030003", /* the second with generators 3, 3, which share x+1 */
+    "000A03020104020700010003", /* the second with version 3, which is no kind of link */
 };
 
 /* The bytes of a text of hexadecimal digits, two a byte; 0 where it is none. */
@@ -76,6 +78,12 @@ static void print_word(const char *name, uint64_t low, uint64_t high)
     printf("  %-8s 0x%016" PRIx64 "%016" PRIx64 "\n", name, high, low);
 }
 
+/* The steps of a word's walk: a terminated link has v more, for the zeros after it. */
+static uint64_t steps_of(struct dohvrin_order order)
+{
+    return order.version == DOHVRIN_TERMINATED ? order.bits + order.v : order.bits;
+}
+
 /* Weight and codeword of a word under the order's code. */
 static void print_code(struct dohvrin_order order, uint64_t low, uint64_t high)
 {
@@ -88,7 +96,7 @@ static void print_code(struct dohvrin_order order, uint64_t low, uint64_t high)
         return;
     }
     printf("  weight   %" PRIu64 "\n  codeword ", weight.value);
-    for (size_t i = 0; i < order.n * order.bits; i++)
+    for (size_t i = 0; i < order.n * steps_of(order); i++)
         putchar('0' + output[i]);
     putchar('\n');
 }
@@ -223,8 +231,9 @@ static int run_record(const char *hex)
         return 1;
     }
     order = read.order;
-    printf("order: n %" PRIu64 ", v %" PRIu64 ", N %" PRIu64 ", m %" PRIu64 ", d %" PRIu64
+    printf("%s order: n %" PRIu64 ", v %" PRIu64 ", N %" PRIu64 ", m %" PRIu64 ", d %" PRIu64
            ", generators %" PRIo64 " %" PRIo64 " %" PRIo64 " %" PRIo64 "\n",
+           order.version == DOHVRIN_TERMINATED ? "terminated" : "tail-biting",
            order.n, order.v, order.bits, order.m, order.d, order.g1, order.g2, order.g3, order.g4);
     run_link(order);
     print_events(order);

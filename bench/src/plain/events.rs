@@ -2,23 +2,18 @@
 //! are bytes, so that the compiler sees that they are within the tables.
 
 use dohvrin::Event;
+use dso_ref::link::Code;
 
 /// No walk weighs as much: past every threshold.
 const NEVER: u8 = 64;
 
-/// The events of weight below d of a right code, of memory v, in their order,
-/// and zero records after them. Nothing where they do not fit.
-pub fn collect(
-    generators: &[u64],
-    v: u64,
-    bits: u64,
-    d: u64,
-    table: &mut [Event],
-) -> Option<usize> {
+/// The events of weight below d of a right code, in their order, and zero
+/// records after them. Nothing where they do not fit.
+pub fn collect(code: Code, d: u64, table: &mut [Event]) -> Option<usize> {
     let mut walk = Walk {
-        top: 1 << (v - 1),
+        top: 1 << (code.memory - 1),
         weights: [[0; 2]; 256],
-        need: vec![[NEVER; 256]; bits as usize],
+        need: vec![[NEVER; 256]; code.steps()],
         below: d as u8,
         home: 0,
         length: 0,
@@ -27,14 +22,14 @@ pub fn collect(
     };
     for (window, weight) in (0..).zip(walk.weights.iter_mut().flatten()) {
         let ones = |g: &u64| (g & window).count_ones() as u8 & 1;
-        *weight = generators.iter().map(ones).sum();
+        *weight = code.generators.iter().map(ones).sum();
     }
-    for home in 0..=u8::MAX >> (8 - v) {
-        walk.home = home;
+    for home in code.homes() {
+        walk.home = home as u8;
         walk.fill();
-        for length in 1..=bits as usize {
+        for length in 1..=code.steps() {
             walk.length = length;
-            walk.back(length, home, 0, 0);
+            walk.back(length, walk.home, 0, 0);
         }
     }
     let events = walk.at;

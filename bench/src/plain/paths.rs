@@ -4,29 +4,27 @@
 
 use super::events::collect;
 use dohvrin::Event;
+use dso_ref::link::{Code, Kind};
 
 /// No chain weighs as much: past every threshold.
 const NEVER: u8 = 255;
 
-/// How many paths there are below d of a right code, of memory v. The words are
-/// in the table by weight and number, zeros after them, and the counts by
+/// How many paths there are below d of a right code. The words are in the table by weight and number, zeros after them, and the counts by
 /// weight; the events are as `collect` leaves them. Nothing where a
 /// table is too small.
 pub fn list(
-    generators: &[u64],
-    v: u64,
-    bits: u64,
+    code: Code,
     d: u64,
     events: &mut [Event],
     paths: &mut [u128],
     counts: &mut [u64],
 ) -> Option<usize> {
-    let n = collect(generators, v, bits, d, events)?;
+    let n = collect(code, d, events)?;
     let mut rest = &events[..n];
     let mut states = Vec::new();
     while let Some(first) = rest.first() {
         let same = rest.partition_point(|e| e.state == first.state);
-        states.push(State::new(&rest[..same], bits as u8));
+        states.push(State::new(&rest[..same], code));
         rest = &rest[same..];
     }
     let mut found = Found { paths, at: 0 };
@@ -34,7 +32,7 @@ pub fn list(
     for (w, count) in (0..d).zip(counts) {
         let before = found.at;
         for state in &states {
-            state.chain(bits as u8, w as u8, 0, 0, &mut found);
+            state.chain(state.steps, w as u8, 0, 1, &mut found);
         }
         found.paths.get_mut(before..found.at)?.sort_unstable();
         *count = (found.at - before) as u64;
@@ -61,7 +59,9 @@ impl Found<'_> {
 
 /// The events of one state, and what bounds the chains of them.
 struct State<'a> {
-    bits: u8,
+    steps: u8,
+    /// Whether a chain may be entered at any step of its first event.
+    turned: bool,
     events: &'a [Event],
     /// By length: where its events begin.
     starts: [usize; 257],
@@ -72,9 +72,10 @@ struct State<'a> {
 }
 
 impl<'a> State<'a> {
-    fn new(events: &'a [Event], bits: u8) -> State<'a> {
+    fn new(events: &'a [Event], code: Code) -> State<'a> {
         let mut state = State {
-            bits,
+            steps: code.steps() as u8,
+            turned: code.kind() == Kind::TailBiting,
             events,
             starts: [events.len(); 257],
             least: [NEVER; 256],
@@ -89,7 +90,7 @@ impl<'a> State<'a> {
             }
             state.least[l] = state.least[l].min(e.weight as u8);
         }
-        for k in 1..=usize::from(bits) {
+        for k in 1..=code.steps() {
             let sums = (1..=k).map(|l| state.least[l].saturating_add(state.fill[k - l]));
             state.fill[k] = sums.min().unwrap_or(NEVER);
         }
@@ -97,19 +98,21 @@ impl<'a> State<'a> {
     }
 
     /// The words of weight `budget` more whose chains begin with these inputs
-    /// and go on for `left` steps; `first` is the first event's length.
+    /// and go on for `left` steps; `first` is the first event's length, or 1
+    /// where nothing is turned.
     fn chain(&self, left: u8, budget: u8, word: u128, first: u8, found: &mut Found) {
-        let place = self.bits - left;
+        let place = self.steps - left;
         let mut from = 1;
         while let Some(l) = self.next_length(left, budget, from) {
-            let first = if place == 0 { l } else { first };
+            let first = if place == 0 && self.turned { l } else { first };
             let after = self.fill[usize::from(left - l)];
             for e in &self.events[self.starts[usize::from(l)]..self.starts[usize::from(l) + 1]] {
                 let weight = e.weight as u8;
                 if weight + after > budget {
                     continue;
                 }
-                let word = word | e.input() << place;
+                // From place 128 on there are zero loops alone.
+                let word = word | e.input().wrapping_shl(place.into());
                 if l < left {
                     self.chain(left - l, budget - weight, word, first, found);
                 } else if weight == budget && word != 0 {
@@ -130,9 +133,10 @@ impl<'a> State<'a> {
 
     /// The word begun 0 to `first` - 1 steps later.
     fn turns(&self, mut word: u128, first: u8, found: &mut Found) {
-        for _ in 0..first {
+        found.push(word);
+        for _ in 1..first {
+            word = word >> 1 | (word & 1) << (self.steps - 1);
             found.push(word);
-            word = word >> 1 | (word & 1) << (self.bits - 1);
         }
     }
 }

@@ -5,43 +5,49 @@
 
 use super::paths::list;
 use dohvrin::Event;
+use dso_ref::link::Code;
 use std::cmp::Ordering;
 
-/// How many paths there are below d, and the best polynomial of degree m, whose
-/// counts are left in `undetected`; the other tables are as `list` leaves
-/// them. Nothing where a table is too small, or several are best.
-#[allow(clippy::too_many_arguments)]
+/// What a search finds.
+#[derive(Debug, PartialEq, Eq)]
+pub enum Best {
+    One(u64),
+    /// So many share the best counts.
+    Several(u64),
+}
+
+/// The best polynomial of degree m, or how many there are: their counts are left
+/// in `undetected`; the other tables are as `list` leaves them. Nothing where a
+/// table is too small.
 pub fn search(
-    generators: &[u64],
-    v: u64,
-    bits: u64,
+    code: Code,
     m: u64,
     d: u64,
     events: &mut [Event],
     paths: &mut [u128],
     plain: &mut [u64],
     undetected: &mut [u64],
-) -> Option<(usize, u64)> {
-    let listed = list(generators, v, bits, d, events, paths, plain)?;
+) -> Option<Best> {
+    list(code, d, events, paths, plain)?;
     // No candidate counts as many.
     undetected.fill(u64::MAX);
     let mut best = Vec::new();
     for p in (1 << m..2 << m).filter(|p| p % 2 == 1) {
-        let rows = check_rows(bits, m, p);
+        let rows = check_rows(code.length, m, p);
         match improve(&rows[..m as usize], paths, plain, undetected) {
             Ordering::Less => best = vec![p],
             Ordering::Equal => best.push(p),
             Ordering::Greater => {}
         }
     }
-    match best[..] {
-        [polynomial] => Some((listed, polynomial)),
-        _ => None,
-    }
+    Some(match best[..] {
+        [polynomial] => Best::One(polynomial),
+        _ => Best::Several(best.len() as u64),
+    })
 }
 
 /// Bit j of row i is bit i of x^j modulo p.
-fn check_rows(bits: u64, m: u64, p: u64) -> [u128; 12] {
+fn check_rows(bits: usize, m: u64, p: u64) -> [u128; 12] {
     let mut rows = [0; 12];
     let mut power = 1;
     for j in 0..bits {

@@ -1,15 +1,31 @@
 //! The calls on one word: the same questions, then the same steps.
 
 use dohvrin::Stripped;
-use dso_ref::link::Code;
+use dso_ref::link::{Code, Kind};
 use dso_ref::questions::{self, Refusal};
 
-/// The weight of a word: the ones in all cyclic products.
+/// The weight of a word: the ones in all cyclic products, or on a terminated
+/// link those of each step.
 pub fn weigh(code: Code, word: u128) -> Result<u32, Refusal> {
-    ask(code)?;
+    let kind = ask(code)?;
     questions::below_power(word, code.length)?;
     let weight = |&g| cyclic_product(word, g, code).count_ones();
-    Ok(code.generators.iter().map(weight).sum())
+    Ok(match kind {
+        Kind::TailBiting => code.generators.iter().map(weight).sum(),
+        Kind::Terminated => weigh_steps(code, word),
+    })
+}
+
+/// The state is kept, and one bit moved in at each step.
+fn weigh_steps(code: Code, word: u128) -> u32 {
+    let (mut state, mut rest, mut weight) = (0, word, 0);
+    for _ in 0..code.steps() {
+        let window = 2 * state + (rest & 1) as u64;
+        let ones = |g: &u64| (g & window).count_ones() % 2;
+        weight += code.generators.iter().map(ones).sum::<u32>();
+        (state, rest) = (window % (1 << code.memory), rest >> 1);
+    }
+    weight
 }
 
 /// u times g modulo x^N + 1, the highest coefficient first.
@@ -30,19 +46,23 @@ pub fn encode(code: Code, word: u128, output: &mut [u8]) -> Result<(), Refusal> 
         memory: v,
         length: n,
         generators,
+        ..
     } = code;
-    ask(code)?;
-    questions::codeword_room(output.len(), generators.len(), n)?;
+    let kind = ask(code)?;
+    questions::codeword_room(output.len(), generators.len(), code.steps())?;
     questions::below_power(word, n)?;
     output.fill(0);
-    let bit = |t: usize| (word >> t & 1) as u64;
-    let mut state = (n - v..n).fold(0, |s, t| 2 * s + bit(t));
-    for (t, step) in (0..n).zip(output.chunks_exact_mut(generators.len())) {
-        let window = 2 * state + bit(t);
+    let mut state = match kind {
+        Kind::TailBiting => (n - v..n).fold(0, |s, t| 2 * s + (word >> t & 1) as u64),
+        Kind::Terminated => 0,
+    };
+    let mut rest = word;
+    for (_, step) in (0..code.steps()).zip(output.chunks_exact_mut(generators.len())) {
+        let window = 2 * state + (rest & 1) as u64;
         for (out, g) in step.iter_mut().zip(generators) {
             *out = (g & window).count_ones() as u8 % 2;
         }
-        state = window % (1 << v);
+        (state, rest) = (window % (1 << v), rest >> 1);
     }
     Ok(())
 }
@@ -86,13 +106,14 @@ fn ask_check(length: usize, m: usize, p: u64) -> Result<(), Refusal> {
     questions::polynomial(p, m)
 }
 
-fn ask(code: Code) -> Result<(), Refusal> {
+fn ask(code: Code) -> Result<Kind, Refusal> {
+    let kind = questions::kind(code.version)?;
     questions::generator_count(code.generators.len())?;
     questions::memory(code.memory)?;
     questions::length(code.memory, code.length)?;
     questions::generator_bits(code.memory, code.generators)?;
     match code.generators.iter().fold(0, |d, &g| gcd(d, g)) {
-        1 => Ok(()),
+        1 => Ok(kind),
         _ => Err(Refusal::No(16)),
     }
 }

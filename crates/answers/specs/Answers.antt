@@ -77,7 +77,7 @@ partAnswer counts w table =
 
 -- the order of a record, as the struct that the calls take
 unfoldable pub noOrder : OrderRecord
-noOrder = record { n = 0; v = 0; bits = 0; m = 0; d = 0; g1 = 0; g2 = 0; g3 = 0; g4 = 0 }
+noOrder = record { version = 0; n = 0; v = 0; bits = 0; m = 0; d = 0; g1 = 0; g2 = 0; g3 = 0; g4 = 0 }
 
 unfoldable pub orderAnswer : Answer Order → OrderAnswer
 orderAnswer (accepted o) = record { refusal = 0; order = recordOf o }

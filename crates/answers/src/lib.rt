@@ -218,6 +218,7 @@ pub fn reading(a: Reading) -> OrderAnswer
         Reading::Refused(k) => order_answer(
             k,
             OrderRecord {
+                version: 0,
                 n: 0,
                 v: 0,
                 bits: 0,

@@ -9,7 +9,8 @@ use mathlib.Core.Logic.{_⊎_, inl, inr, ⊎-elim, _≢_}
 use mathlib.Core.List.{List}
 use lib.ListN.{length, getD, set, length-set}
 use lib.Seq.{getD-set-other, getD-set-same}
-use Rattle.bounds.specs.Model.Places.{mostSteps, areaSize, leastPlace, fillPlace}
+use Rattle.code.specs.Model.Steps.{mostSteps}
+use Rattle.bounds.specs.Model.Places.{areaSize, leastPlace, fillPlace}
 use Rattle.bounds.specs.Model.Tables.{leastAt, fillAt, bitsAt, carried, leastSum, filledFrom, filled}
 use Rattle.bounds.proofs.Regions.{kept-below}
 use Rattle.bounds.proofs.Kept.{carried-keeps, filledFrom-keeps}

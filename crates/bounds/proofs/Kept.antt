@@ -8,7 +8,8 @@ use mathlib.Core.List.{List, [], _∷_}
 use lib.ListN.{length, getD, set}
 use Rattle.events.specs.declared.Event.{Event}
 use Rattle.events.specs.Events.{noEvent}
-use Rattle.bounds.specs.Model.Places.{mostSteps, lengthCount, stateCount, tooHeavy, firstPlace, stateEndPlace, leastPlace, lengthEndPlace, startPlace, fillPlace, bitsPlace, endPlace, Region, firsts, stateEnds, leasts, lengthEnds, starts, fills, bitsCell, endCell}
+use Rattle.code.specs.Model.Steps.{mostSteps}
+use Rattle.bounds.specs.Model.Places.{lengthCount, stateCount, tooHeavy, firstPlace, stateEndPlace, leastPlace, lengthEndPlace, startPlace, fillPlace, bitsPlace, endPlace, Region, firsts, stateEnds, leasts, lengthEnds, starts, fills, bitsCell, endCell}
 use Rattle.bounds.specs.Model.Tables.{firstOf, leastAt, fillAt, bitsAt, noted, surveyed, resetFrom, opened, carried, leastSum, filledFrom, filled, indexed, closed, Fits, Small}
 use Rattle.bounds.proofs.Regions.{Keeps, keeps-all, keeps-then, keeps-set, keeps-also, keeps-within, kept}
 
@@ -97,7 +98,7 @@ closed-keeps from work few =
     kept places bitsCell tt 0 (omega arith) in
     keeps-then (keeps-also places) (keeps-within fills (omega arith) (omega arith) (filled-keeps _ (omega arith)))
 
--- ---- the index of states and N survive the tables of a state
+-- ---- the index of states and the number of steps survive the tables of a state
 
 module _ (table : List Event) (n k from to : ℕ) (work : List ℕ) (ok : Noteworthy table n k) (few : bitsAt work ≤ mostSteps) where
   abbrev survey : List ℕ

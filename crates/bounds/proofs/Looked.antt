@@ -12,7 +12,8 @@ use Rattle.lists.proofs.Choices.{cond-true, cond-false}
 use Rattle.events.specs.declared.Event.{Event}
 use Rattle.events.specs.Events.{noEvent}
 use Rattle.bounds.specs.declared.Chain.{Chain}
-use Rattle.bounds.specs.Model.Places.{mostSteps, lengthCount}
+use Rattle.code.specs.Model.Steps.{mostSteps}
+use Rattle.bounds.specs.Model.Places.{lengthCount}
 use Rattle.bounds.specs.Model.Tables.{leastAt, startAt, fillAt, nextIn, nextLength, beginning, following, Ready, Segment}
 use Rattle.bounds.proofs.Cases.{leb-fails, beginning-full, beginning-found, following-full, following-next, following-longer}
 use Rattle.bounds.proofs.Placed.{lt-or-ge}

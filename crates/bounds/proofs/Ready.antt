@@ -8,7 +8,8 @@ use mathlib.Core.List.{List}
 use lib.ListN.{length, getD}
 use Rattle.events.specs.declared.Event.{Event}
 use Rattle.events.specs.Events.{noEvent}
-use Rattle.bounds.specs.Model.Places.{mostSteps, lengthCount, tooHeavy, lengthEndPlace, startPlace, areaSize, leasts, lengthEnds, starts, bitsCell, endCell}
+use Rattle.code.specs.Model.Steps.{mostSteps}
+use Rattle.bounds.specs.Model.Places.{lengthCount, tooHeavy, lengthEndPlace, startPlace, areaSize, leasts, lengthEnds, starts, bitsCell, endCell}
 use Rattle.bounds.specs.Model.Tables.{leastAt, startAt, fillAt, bitsAt, surveyed, opened, carried, closed, Small, Ready, Segment}
 use Rattle.bounds.proofs.Regions.{kept}
 use Rattle.bounds.proofs.Kept.{Noteworthy, opened-keeps, surveyed-keeps, lengths-keeps, filled-keeps, closed-keeps, small-closed, bitsAt-survives}

@@ -9,7 +9,8 @@ use lib.ListN.{length, getD, replicate, length-replicate, getD-replicate}
 use lib.Seq.{getD-set-other, getD-set-same}
 use Rattle.events.specs.declared.Event.{Event}
 use Rattle.events.specs.Events.{noEvent}
-use Rattle.bounds.specs.Model.Places.{mostSteps, stateCount, firstPlace, stateEndPlace, fillPlace, bitsPlace, areaSize, stateEnds, fills}
+use Rattle.code.specs.Model.Steps.{mostSteps}
+use Rattle.bounds.specs.Model.Places.{stateCount, firstPlace, stateEndPlace, fillPlace, bitsPlace, areaSize, stateEnds, fills}
 use Rattle.bounds.specs.Model.Tables.{firstOf, fillAt, bitsAt, surveyed, carried, indexed}
 use Rattle.bounds.proofs.Regions.{kept}
 use Rattle.bounds.proofs.Kept.{Noteworthy, surveyed-keeps, carried-keeps, indexed-keeps}

@@ -11,7 +11,8 @@ use lib.ListN.{length, getD, set, length-set}
 use lib.Seq.{getD-set-other, getD-set-same}
 use Rattle.events.specs.declared.Event.{Event}
 use Rattle.events.specs.Events.{noEvent}
-use Rattle.bounds.specs.Model.Places.{mostSteps, lengthCount, tooHeavy, stateEndPlace, leastPlace, lengthEndPlace, endPlace, areaSize, Region, stateEnds, leasts, lengthEnds, fills, bitsCell, endCell}
+use Rattle.code.specs.Model.Steps.{mostSteps}
+use Rattle.bounds.specs.Model.Places.{lengthCount, tooHeavy, stateEndPlace, leastPlace, lengthEndPlace, endPlace, areaSize, Region, stateEnds, leasts, lengthEnds, fills, bitsCell, endCell}
 use Rattle.bounds.specs.Model.Tables.{leastAt, fillAt, bitsAt, endAt, noted, surveyed, resetFrom, opened, Fits, Small}
 use Rattle.bounds.proofs.Regions.{Keeps, keeps-set, kept}
 use Rattle.bounds.proofs.Kept.{Noteworthy, later-noteworthy, set-le, noted-keeps, surveyed-keeps, opened-keeps, resetFrom-keeps}

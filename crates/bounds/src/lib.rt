@@ -3,7 +3,8 @@
 ghost use mathlib.Core.Path.{_≡_};
 ghost use Prim.Native.Nat.{_+_, _≤_, _<_, min, max};
 ghost use lib.ListN.{length};
-ghost use Rattle.bounds.specs.Model.Places.{mostSteps, stateCount, areaSize};
+ghost use Rattle.code.specs.Model.Steps.{mostSteps};
+ghost use Rattle.bounds.specs.Model.Places.{stateCount, areaSize};
 ghost use Rattle.bounds.specs.Model.Tables.{firstOf, noted, opened, carried, leastSum, filled, indexed, closed, nextLength, beginning, following, decided, Fits, Small, ToLook, ToFollow, ToDecide};
 use events::Event;
 
@@ -28,7 +29,7 @@ pub const END_AT: usize = 2049;
 // How many states and how many lengths, 0 among them, the tables have.
 const STATES: usize = 256;
 
-const LENGTHS: usize = 129;
+const LENGTHS: usize = 137;
 
 // More than any chain may weigh.
 const TOO_HEAVY: u64 = 255;
@@ -132,7 +133,7 @@ fn least_sum(work: &[u64], k: u64) -> u64
     least
 }
 
-// The least weights of 1 to N steps, from those of no step on.
+// The least weights of chains of 1 step to all steps of a word, from that of no step on.
 fn fill(work: &mut [u64])
     requires { ⌜ Small (now work) ⌝ }
     ensures { λ _. ⌜ now (work .exit) ≡ filled (now (work .entry)) ⌝ }

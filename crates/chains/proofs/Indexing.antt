@@ -1,6 +1,6 @@
 -- Once the table holds an order's events and all are noted, the work area tells where each state's begin (`delimits-order`).
 -- Assumes nothing.
-use Prim.Native.Nat.{ℕ, _+_, _^_, _≤_, _<_}
+use Prim.Native.Nat.{ℕ, _+_, _-_, _*_, _^_, _≤_, _<_}
 use native.Mathlib.Nat.{le-trans, lt-of-lt-of-le}
 use native.Mathlib.Omega.{arith}
 use mathlib.Core.Path.{_≡_, refl, sym, ap, _∙_, subst}
@@ -9,17 +9,24 @@ use mathlib.Core.List.{List, map}
 use lib.ListN.{length, getD, replicate, length-replicate, List·getD-map, length-map}
 use lib.Pow.{pow-mono}
 use Rattle.lists.proofs.Lengths.{getD-padded-inside}
+use Rattle.code.specs.Links.{stepsOf, eventStates}
+use Rattle.code.proofs.Links.{states-le}
 use Rattle.order.specs.Order.{Order}
 use Rattle.events.specs.declared.Event.{Event}
 use Rattle.events.specs.Events.{ErrorEvent, events, entry, noEvent, eventTable}
 use Rattle.events.proofs.Listed.{Listed, Before, of-events, events-sorted}
-use Rattle.bounds.specs.Model.Places.{mostSteps, stateCount, areaSize}
+use Rattle.code.specs.Model.Steps.{mostSteps}
+use Rattle.bounds.specs.Model.Places.{stateCount, areaSize}
 use Rattle.bounds.specs.Model.Tables.{firstOf, bitsAt, surveyed, indexed, Segment}
 use Rattle.bounds.proofs.Kept.{Noteworthy, surveyed-keeps, indexed-keeps}
 use Rattle.bounds.proofs.States.{states-indexed, firstOf-rises, firstOf-last, states-between, states-bits, states-fill}
 use Rattle.chains.specs.Model.Chaining.{mostWeight, wordOf, Joinable, Indexed}
 use Rattle.chains.proofs.Slices.{getD-in, sorted-at}
 use Rattle.chains.proofs.Listed.{noErrorEvent, Delimits}
+
+-- where the event ends a word, its input stays below 2^128
+abbrev pub InputWhole : Order → ErrorEvent → Type 0
+InputWhole o e = e .input * 2 ^ (stepsOf o - e .length) < 2 ^ 128
 
 -- what an entry of the table says of its event
 entry-state : (e : ErrorEvent) → entry e .state ≡ e .state
@@ -30,16 +37,17 @@ entry-length : (e : ErrorEvent) → entry e .length ≡ e .length
 unfolding entry
 entry-length e = refl
 
-entry-joinable : (o : Order) (e : ErrorEvent) → o .d ≤ mostWeight → Listed o e → Joinable (o .N) (entry e)
+entry-joinable : (o : Order) (e : ErrorEvent) → o .d ≤ mostWeight → InputWhole o e → Listed o e → Joinable (stepsOf o) (entry e)
 unfolding entry
-entry-joinable o e light h =
+entry-joinable o e light whole h =
     let b = h .below in
     record {
       some-step = h .some-step;
-      short = h .at-most-N;
+      short = h .at-most-steps;
       light = omega arith;
       input-small = subst
           (λ (x : ℕ). x < 2 ^ e .length) (sym (halves (e .input))) (h .input-fits);
+      whole = subst (λ (x : ℕ). x * 2 ^ (stepsOf o - e .length) < 2 ^ 128) (sym (halves (e .input))) whole;
     }
   where
     halves : (c : ℕ) → wordOf (entry (record { state = e .state; length = e .length; weight = e .weight; input = c })) ≡ c
@@ -54,7 +62,8 @@ before-lengths e f same (inl h) = absurd (omega arith)
 before-lengths e f same (inr (q, inl h)) = omega arith
 before-lengths e f same (inr (q, inr h)) = let l = h .0 in omega arith
 
-module _ (o : Order) (some-bits : 1 ≤ o .N) (few-bits : o .N ≤ mostSteps) (memory : o .v ≤ 8) (light : o .d ≤ mostWeight)
+module _ (o : Order) (some-bits : 1 ≤ stepsOf o) (few-bits : stepsOf o ≤ mostSteps) (memory : o .v ≤ 8) (light : o .d ≤ mostWeight)
+    (whole : (e : ErrorEvent) → Listed o e → InputWhole o e)
     (table : List Event) (size : ℕ) (room : areaSize ≤ size) (fits : length (events o) ≤ length table)
     (entries : (k : ℕ) → k < length (events o) → getD table k noEvent ≡ entry (getD (events o) k noErrorEvent)) where
   abbrev count : ℕ
@@ -64,10 +73,10 @@ module _ (o : Order) (some-bits : 1 ≤ o .N) (few-bits : o .N ≤ mostSteps) (m
   event k = getD (events o) k noErrorEvent
 
   abbrev work : List ℕ
-  work = indexed (o .N) (surveyed table count 0 (replicate size 0))
+  work = indexed (stepsOf o) (surveyed table count 0 (replicate size 0))
 
-  few-states : 2 ^ o .v ≤ stateCount
-  few-states = pow-mono {i = o .v} {j = 8} memory
+  few-states : eventStates o ≤ stateCount
+  few-states = le-trans (states-le o) (pow-mono {i = o .v} {j = 8} memory)
 
   known : (k : ℕ) → k < count → Listed o (event k)
   known k h = of-events o (getD-in noErrorEvent (events o) k h)
@@ -90,7 +99,7 @@ module _ (o : Order) (some-bits : 1 ≤ o .N) (few-bits : o .N ≤ mostSteps) (m
       record {
         state-small = state-small k in-table;
         length-small = subst (λ (x : ℕ). x ≤ mostSteps) (sym (length-at k in-table))
-            (le-trans (known k in-table .at-most-N) few-bits);
+            (le-trans (known k in-table .at-most-steps) few-bits);
       }
 
   ordered : (k l : ℕ) → k < l → l < count → getD table k noEvent .state ≤ getD table l noEvent .state
@@ -101,22 +110,22 @@ module _ (o : Order) (some-bits : 1 ≤ o .N) (few-bits : o .N ≤ mostSteps) (m
       omega (arith, a, b, c)
 
   last : (i : ℕ) → i ≤ stateCount → firstOf work i ≤ count
-  last = firstOf-last table count (o .N) size room noteworthy ordered
+  last = firstOf-last table count (stepsOf o) size room noteworthy ordered
 
   between : (k s : ℕ) → s < stateCount → firstOf work s ≤ k → k < firstOf work (s + 1) → getD table k noEvent .state ≡ s
-  between = states-between table count (o .N) size room noteworthy ordered
+  between = states-between table count (stepsOf o) size room noteworthy ordered
 
-  bits-are : bitsAt work ≡ o .N
-  bits-are = states-bits table count (o .N) size room noteworthy ordered
+  bits-are : bitsAt work ≡ stepsOf o
+  bits-are = states-bits table count (stepsOf o) size room noteworthy ordered
 
-  segment : (i : ℕ) → i < stateCount → Segment table (o .N) (firstOf work i) (firstOf work (i + 1))
+  segment : (i : ℕ) → i < stateCount → Segment table (stepsOf o) (firstOf work i) (firstOf work (i + 1))
   segment i h = record {
     states = λ k a b. state-small k (in-table k b);
     lengths = λ k a b.
         let e = known k (in-table k b) in (
           subst (λ (x : ℕ). 1 ≤ x) (sym (length-at k (in-table k b))) (e .some-step),
-          subst (λ (x : ℕ). x ≤ o .N)
-              (sym (length-at k (in-table k b))) (e .at-most-N),
+          subst (λ (x : ℕ). x ≤ stepsOf o)
+              (sym (length-at k (in-table k b))) (e .at-most-steps),
         );
     ordered = λ k l a c b.
         let k-in : k < count = in-table k (omega arith) in
@@ -133,19 +142,19 @@ module _ (o : Order) (some-bits : 1 ≤ o .N) (few-bits : o .N ≤ mostSteps) (m
 
   index : Indexed table work
   index = record {
-    enough = let a = indexed-keeps (o .N) (surveyed table count 0 (replicate size 0)) .size in
+    enough = let a = indexed-keeps (stepsOf o) (surveyed table count 0 (replicate size 0)) .size in
         let b = surveyed-keeps table count 0 (replicate size 0) noteworthy .size in let c =
         length-replicate {A = ℕ} size 0 in omega (arith, a, b, c, room);
     some-bits = subst (λ (x : ℕ). 1 ≤ x) (sym bits-are) some-bits;
     few-bits = subst (λ (x : ℕ). x ≤ mostSteps) (sym bits-are) few-bits;
-    fill-small = λ k h. let z = states-fill table count (o .N) size room noteworthy ordered k h in omega (arith, z);
-    rises = firstOf-rises table count (o .N) size room noteworthy ordered;
+    fill-small = λ k h. let z = states-fill table count (stepsOf o) size room noteworthy ordered k h in omega (arith, z);
+    rises = firstOf-rises table count (stepsOf o) size room noteworthy ordered;
     inside = le-trans (last stateCount (omega arith)) fits;
     segment = λ i h. subst (λ (x : ℕ). Segment table x (firstOf work i) (firstOf work (i + 1))) (sym bits-are) (segment i h);
     joinable = λ k h.
         let in-table : k < count = lt-of-lt-of-le h (last stateCount (omega arith)) in
-        subst (λ (x : ℕ). Joinable x (getD table k noEvent)) (sym bits-are) (subst (Joinable (o .N)) (sym (entries k in-table))
-        (entry-joinable o (event k) light (known k in-table)));
+        subst (λ (x : ℕ). Joinable x (getD table k noEvent)) (sym bits-are) (subst (Joinable (stepsOf o)) (sym (entries k in-table))
+        (entry-joinable o (event k) light (whole (event k) (known k in-table)) (known k in-table)));
   }
 
   pub delimits-order : Delimits o table work
@@ -155,7 +164,7 @@ module _ (o : Order) (some-bits : 1 ≤ o .N) (few-bits : o .N ≤ mostSteps) (m
     few-states = few-states;
     entries = entries;
     last = last;
-    placed = states-indexed table count (o .N) size room noteworthy ordered;
+    placed = states-indexed table count (stepsOf o) size room noteworthy ordered;
     between = between;
   }
 

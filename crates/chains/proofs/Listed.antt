@@ -1,5 +1,6 @@
 -- What the chaining finds is what the model of the recursion joins (`paths`' specs/Model/Joining.antt), where the table holds an order's events and the work
--- area tells where each state's begin: state by state (`found-is-stateWords`), and over all states (`foundFrom-is-chainWords`).
+-- area tells where each state's begin: state by state (`found-is-stateWords`), and over all states that begin events
+-- (`foundFrom-is-chainWords`).
 -- Assumes nothing.
 use Prim.Native.Nat.{ℕ, zero, suc, _+_, _-_, _^_, _≤_, _<_}
 use native.Mathlib.Nat.{lt-of-lt-of-le}
@@ -14,12 +15,13 @@ use Rattle.lists.specs.Lists.{upFrom}
 use Rattle.lists.proofs.Member.{upFrom-bounds, in-upFrom}
 use Rattle.lists.proofs.Sorted.{Sorted, sorted-known, upFrom-sorted}
 use Rattle.lists.proofs.Keys.{By, ByThen, by-asymmetric, byThen-asymmetric, blocks-sorted}
+use Rattle.code.specs.Links.{stepsOf, eventStates}
 use Rattle.order.specs.Order.{Order}
 use Rattle.events.specs.declared.Event.{Event}
 use Rattle.events.specs.Events.{ErrorEvent, eventsOfLength, eventsOfState, events, entry, noEvent}
 use Rattle.events.proofs.Listed.{Before, of-events, in-events, of-eventsOfLength, eventsOfLength-sorted, events-sorted}
 use Rattle.events.proofs.OfState.{EventOf, mem-eventsOfState}
-use Rattle.paths.specs.Model.Joining.{joined, stateWords, chainWords}
+use Rattle.paths.specs.Model.Joining.{joined, unbegunFirst, stateWords, chainWords}
 use Rattle.bounds.specs.Model.Places.{stateCount}
 use Rattle.bounds.specs.Model.Tables.{firstOf, bitsAt}
 use Rattle.chains.specs.Model.Chaining.{errorEvent, atHand, atState, afterStates, found, foundFrom, unbegun, Indexed}
@@ -32,8 +34,8 @@ noErrorEvent = record { state = 0; length = 0; weight = 0; input = 0 }
 -- the table begins with the order's events, and the work area tells where each state's stand
 pub record Delimits (o : Order) (table : List Event) (work : List ℕ) : Type 0 where
   pub indexed : Indexed table work
-  pub bits : bitsAt work ≡ o .N
-  pub few-states : 2 ^ o .v ≤ stateCount
+  pub bits : bitsAt work ≡ stepsOf o
+  pub few-states : eventStates o ≤ stateCount
   pub entries : (k : ℕ) → k < length (events o) → getD table k noEvent ≡ entry (getD (events o) k noErrorEvent)
   pub last : (i : ℕ) → i ≤ stateCount → firstOf work i ≤ length (events o)
   pub placed : (k : ℕ) → k < length (events o)
@@ -66,7 +68,7 @@ unfolding eventsOfState
 state-sorted o i =
     blocks-sorted (λ e. e .length) (By (λ e. e .input)) (eventsOfLength o i)
     (λ l e m. sym (ap (λ (f : ErrorEvent). f .length) (of-eventsOfLength o i l m .3)))
-    (eventsOfLength-sorted o i) (upFrom 1 (o .N)) (upFrom-sorted 1 (o .N))
+    (eventsOfLength-sorted o i) (upFrom 1 (stepsOf o)) (upFrom-sorted 1 (stepsOf o))
 
 module _ (o : Order) (table : List Event) (work : List ℕ) (d : Delimits o table work) where
   abbrev count : ℕ
@@ -86,7 +88,7 @@ module _ (o : Order) (table : List Event) (work : List ℕ) (d : Delimits o tabl
   state-is : (k : ℕ) → k < count → getD table k noEvent .state ≡ event k .state
   state-is k h = ap (λ (e : Event). e .state) (d .entries k h) ∙ state-entry (event k)
 
-  module _ (i : ℕ) (low : i < 2 ^ o .v) where
+  module _ (i : ℕ) (low : i < eventStates o) where
     inside : i < stateCount
     inside = lt-of-lt-of-le low (d .few-states)
 
@@ -156,12 +158,12 @@ module _ (o : Order) (table : List Event) (work : List ℕ) (d : Delimits o tabl
         ap₂ (λ (x y : ℕ). map (λ k. errorEvent (getD table k noEvent)) (upFrom x (y - x))) (start-atState (d .indexed) i inside)
         (end-atState (d .indexed) i inside) ∙ slice-is
 
-    pub found-is-stateWords : (w : ℕ) → found table (atState table i work) (unbegun (bitsAt work) w) ≡ stateWords o i w
+    pub found-is-stateWords : (w : ℕ) → found table (atState table i work) (unbegun (bitsAt work) (unbegunFirst o) w) ≡ stateWords o i w
     unfolding found unbegun stateWords
     found-is-stateWords w =
-        ap₂ (λ (es : List ErrorEvent) (N : ℕ). joined (bitsAt work) es N (bitsAt work) 0 0 w) at-hand-is
+        ap₂ (λ (es : List ErrorEvent) (N : ℕ). joined (bitsAt work) es N (bitsAt work) 0 (unbegunFirst o) w) at-hand-is
         (bits-atState (d .indexed) i inside)
-        ∙ ap (λ (N : ℕ). joined N (eventsOfState o i) N N 0 0 w) (d .bits)
+        ∙ ap (λ (N : ℕ). joined N (eventsOfState o i) N N 0 (unbegunFirst o) w) (d .bits)
 
     -- the next state finds the same index
     pub delimits-next : Delimits o table (atState table i work)
@@ -188,18 +190,18 @@ module _ (o : Order) (table : List Event) (work : List ℕ) (d : Delimits o tabl
         }
 
 -- n states from state i on
-found-from : (o : Order) (table : List Event) (w n i : ℕ) (work : List ℕ) → Delimits o table work → i + n ≤ 2 ^ o .v
-    → foundFrom table w n i work ≡ flatMap (λ j. stateWords o j w) (upFrom i n)
+found-from : (o : Order) (table : List Event) (w n i : ℕ) (work : List ℕ) → Delimits o table work → i + n ≤ eventStates o
+    → foundFrom table (unbegunFirst o) w n i work ≡ flatMap (λ j. stateWords o j w) (upFrom i n)
 unfolding foundFrom upFrom flatMap
 found-from o table w zero i work d h = refl
 found-from o table w (suc n) i work d h =
-    let low : i < 2 ^ o .v = omega arith in
+    let low : i < eventStates o = omega arith in
     ap₂ _++_ (found-is-stateWords o table work d i low w)
-    (ap (λ (x : ℕ). foundFrom table w n x (atState table i work)) (add-one i) ∙ found-from o table w n (suc i)
+    (ap (λ (x : ℕ). foundFrom table (unbegunFirst o) w n x (atState table i work)) (add-one i) ∙ found-from o table w n (suc i)
     (atState table i work) (delimits-next o table work d i low) (omega arith))
 
 -- the index stays, however many states were at hand
-pub delimits-after : (o : Order) (table : List Event) (n i : ℕ) (work : List ℕ) → Delimits o table work → i + n ≤ 2 ^ o .v
+pub delimits-after : (o : Order) (table : List Event) (n i : ℕ) (work : List ℕ) → Delimits o table work → i + n ≤ eventStates o
     → Delimits o table (afterStates table n i work)
 unfolding afterStates
 delimits-after o table zero i work d h = d
@@ -207,9 +209,9 @@ delimits-after o table (suc n) i work d h =
     delimits-after o table n (i + 1) (atState table i work) (delimits-next o table work d i (omega arith)) (omega arith)
 
 pub foundFrom-is-chainWords : (o : Order) (table : List Event) (work : List ℕ) (w : ℕ) → Delimits o table work
-    → foundFrom table w (2 ^ o .v) 0 work ≡ chainWords o w
+    → foundFrom table (unbegunFirst o) w (eventStates o) 0 work ≡ chainWords o w
 unfolding chainWords
-foundFrom-is-chainWords o table work w d = found-from o table w (2 ^ o .v) 0 work d (all (2 ^ o .v))
+foundFrom-is-chainWords o table work w d = found-from o table w (eventStates o) 0 work d (all (eventStates o))
   where
     all : (x : ℕ) → 0 + x ≤ x
     all x = omega arith

@@ -1,21 +1,21 @@
 -- A chain begun stays small as events are joined to it: its inputs have as many bits as it has steps.
 -- Assumes nothing.
-use Prim.Native.Nat.{ℕ, zero, suc, _+_, _-_, _*_, _^_, _≤_, _<_}
+use Prim.Native.Nat.{ℕ, suc, _+_, _-_, _*_, _^_, _≤_, _<_}
 use native.Mathlib.Nat.{mul-le-mul-right, suc-mul, lt-of-lt-of-le}
 use native.Mathlib.Omega.{arith}
 use mathlib.Core.Path.{_≡_, sym, ap, subst}
 use lib.Pow.{pow-add, pow-mono}
 use Rattle.events.specs.declared.Event.{Event}
 use Rattle.paths.specs.Model.Joining.{firstOr}
+use Rattle.rotations.specs.Model.Put.{ShortToTurn}
 use Rattle.bounds.specs.declared.Chain.{Chain}
-use Rattle.bounds.specs.Model.Places.{mostSteps}
 use Rattle.chains.specs.Model.Chaining.{mostWeight, inputsOf, wordOf, extended, unbegun, Joinable, Unfinished}
 use Rattle.chains.proofs.Found.{word-extended}
 
-firstOr-small : (first l : ℕ) → first ≤ mostSteps → l ≤ mostSteps → firstOr first l ≤ mostSteps
+-- a chain that is not turned stays so
+firstOr-one : (first l : ℕ) → first ≡ 1 → firstOr first l ≡ 1
 unfolding firstOr
-firstOr-small zero l h g = g
-firstOr-small (suc first) l h g = h
+firstOr-one first l e = ap (λ (x : ℕ). firstOr x l) e
 
 -- inputs below, and inputs above them
 joint-lt : (a x p l : ℕ) → a < 2 ^ p → x < 2 ^ l → a + x * 2 ^ p < 2 ^ (l + p)
@@ -38,25 +38,28 @@ module _ (N : ℕ) (begun : Chain) (e : Event) (is : Unfinished N begun) (able :
   pub whole-word-lt : inputsOf (extended N begun e) < 2 ^ N
   whole-word-lt = lt-of-lt-of-le word-lt (pow-mono {i = N - (begun .steps - e .length)} {j = N} (omega arith))
 
-  pub extended-unfinished : N ≤ mostSteps → e .length < begun .steps → Unfinished N (extended N begun e)
+  pub extended-short : ShortToTurn (extended N begun e .first) N
   unfolding extended
-  extended-unfinished few shorter =
+  extended-short turned = is .short-to-turn (λ once. turned (firstOr-one (begun .first) (e .length) once))
+
+  pub extended-unfinished : e .length < begun .steps → Unfinished N (extended N begun e)
+  unfolding extended
+  extended-unfinished shorter =
       let inside = is .within in
       let light = is .light in
-      let l = able .short in
       record {
         some-left = omega arith;
         within = omega arith;
-        first-small = firstOr-small (begun .first) (e .length) (is .first-small) (omega arith);
+        short-to-turn = extended-short;
         light = omega arith;
         word-small = word-lt;
       }
 
-pub unbegun-unfinished : (N w : ℕ) → 1 ≤ N → w ≤ mostWeight → Unfinished N (unbegun N w)
+pub unbegun-unfinished : (N first w : ℕ) → 1 ≤ N → ShortToTurn first N → w ≤ mostWeight → Unfinished N (unbegun N first w)
 unfolding unbegun
-unbegun-unfinished N w some light =
+unbegun-unfinished N first w some short light =
     let z : 2 ^ (N - N) ≡ 1 = ap (λ (x : ℕ). 2 ^ x) (nothing-left N) in
-    record { some-left = some; within = same N; first-small = omega arith; light = light; word-small = omega arith }
+    record { some-left = some; within = same N; short-to-turn = short; light = light; word-small = omega arith }
   where
     nothing-left : (x : ℕ) → x - x ≡ 0
     nothing-left x = omega arith

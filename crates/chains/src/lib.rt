@@ -1,5 +1,6 @@
-// Chains of events of one state, joined one after another until their lengths sum to N (document 01); the rotations of each chain are appended to the
-// path table. The tables of `bounds`, kept in the work area, tell which events are worth joining.
+// Chains of events of one state, joined one after another until their lengths sum to the steps of a word (document 01); the rotations of each chain,
+// or the chain as it is where it is not turned, are appended to the path table. The tables of `bounds`, kept in the work area, tell which events are
+// worth joining.
 ghost use mathlib.Core.Path.{_≡_};
 ghost use Prim.Native.Nat.{_-_, _≤_, _<_};
 ghost use lib.ListN.{length};
@@ -63,13 +64,13 @@ fn emit(work: &[u64], paths: &mut [u64], at: usize, whole: Chain) -> usize
     push_turns(paths, at, bits, whole.first, make(whole.low, whole.high))
 }
 
-// A chain that is not begun: all its steps are left.
-fn unbegun(work: &[u64], w: u64) -> Chain
+// A chain that is not begun: all its steps are left. `first` is 0, or 1 where a chain is not turned.
+fn unbegun(work: &[u64], first: u64, w: u64) -> Chain
     requires { ⌜ Small (now work) ⌝ }
-    ensures { λ r. ⌜ r ≡ unbegun (bitsAt (now (work .entry))) w ⌝ }
+    ensures { λ r. ⌜ r ≡ unbegun (bitsAt (now (work .entry))) first w ⌝ }
 {
     Chain {
-        first: 0,
+        first,
         steps: work[BITS_AT],
         budget: w,
         low: 0,
@@ -150,17 +151,18 @@ fn list_state(
     paths: &mut [u64],
     at: usize,
     i: usize,
+    first: u64,
     w: u64,
 ) -> usize
-    requires { ⌜ ToListState (now events) (now work) (now paths) at i w ⌝ }
-    ensures { λ r. ⌜ (now (work .exit), (now (paths .exit), r)) ≡ stateListed (now (events .entry)) w i (now (work .entry)) (now (paths .entry), at) ⌝ }
+    requires { ⌜ ToListState (now events) (now work) (now paths) at i first w ⌝ }
+    ensures { λ r. ⌜ (now (work .exit), (now (paths .exit), r)) ≡ stateListed (now (events .entry)) first w i (now (work .entry)) (now (paths .entry), at) ⌝ }
 {
     let from = first_of(work, i);
     let to = first_of(work, i + 1);
     open_state(work, to);
     survey(events, work, from, to);
     close_state(work, from);
-    let begun = unbegun(work, w);
+    let begun = unbegun(work, first, w);
     chain(events, work, paths, at, begun)
 }
 
@@ -171,15 +173,16 @@ pub fn list_weight(
     paths: &mut [u64],
     at: usize,
     states: usize,
+    first: u64,
     w: u64,
 ) -> usize
-    requires { ⌜ ToListWeight (now events) (now work) (now paths) at states w ⌝ }
-    ensures { λ r. ⌜ (now (work .exit), (now (paths .exit), r)) ≡ weightListed (now (events .entry)) w states (now (work .entry)) (now (paths .entry), at) ⌝ }
+    requires { ⌜ ToListWeight (now events) (now work) (now paths) at states first w ⌝ }
+    ensures { λ r. ⌜ (now (work .exit), (now (paths .exit), r)) ≡ weightListed (now (events .entry)) first w states (now (work .entry)) (now (paths .entry), at) ⌝ }
 {
     let mut next = at;
     let mut i = 0;
     while i < states {
-        next = list_state(events, work, paths, next, i, w);
+        next = list_state(events, work, paths, next, i, first, w);
         i += 1;
     }
     next

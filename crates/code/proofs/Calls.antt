@@ -1,6 +1,6 @@
 -- What follows from the questions of the encoder and the weight: the refusals in their order, and what an accepted call may use.
 -- Assumes nothing.
-use mathlib.Core.Path.{_≡_, sym, _∙_, subst}
+use mathlib.Core.Path.{_≡_, sym, ap, _∙_, subst}
 use mathlib.Core.Bool.{true, false}
 use mathlib.Core.List.{List, [], _∷_}
 use Prim.Native.Nat.{ℕ, _*_, _^_, _≤_, _<_}
@@ -23,10 +23,13 @@ use Rattle.order.specs.declared.record.OrderRecord.{OrderRecord}
 use Rattle.order.proofs.Answers.{below-of-range}
 use Rattle.order.proofs.Asked.{numbered-order, accepted-order, four-are}
 use Rattle.order.proofs.FirstNo.{firstNo-none, firstNo-yes, firstNo-no, refused-first, refused-later, is-refused, is-answered, leaves-refused, leaves-answered}
+use Rattle.code.specs.Links.{terminated, stepsOf}
 use Rattle.code.specs.Weight.{weight, codeword}
 use Rattle.code.specs.Calls.{weighQuestions, weighCall, encodeQuestions, encodeCall}
-use Rattle.code.specs.Model.Steps.{ShortWord, CodeWord, codeOf}
+use Rattle.code.specs.Model.Cyclic.{cyclicWeight, cyclicCodeword}
+use Rattle.code.specs.Model.Steps.{mostSteps, ShortWord, FewGenerators, ToWeigh, ToStep, CodeWord}
 use Rattle.code.proofs.Steps.{Fit}
+use Rattle.code.proofs.Links.{few-steps, memory-fits, some-steps, wide-word, steps-tail-biting, weight-is-cyclic, codeword-is-cyclic}
 
 -- generators in range have at most v + 1 coefficients
 pub fit-of-range : (v : ℕ) (gs : List ℕ) → all (inRange v) gs ≡ true → Fit v gs
@@ -41,15 +44,41 @@ fit-of-code o acc = fit-of-range (o .v) (o .generators) (acc .in-range)
 pub short-word : {o : Order} {u : ℕ} → CodeWord o u → ShortWord (o .N) u
 short-word w = record { some-bits = omega arith; at-most-128 = w .code .at-most-128; fits = w .fits }
 
--- the code alone
-of-code : (o : Order) (u : ℕ) → CodeWord o u → CodeWord (codeOf (o .generators) (o .v) (o .N)) u
-of-code o u w = record { code = w .code; fits = w .fits }
+generators-of : (o : Order) → AcceptedCode o → FewGenerators (o .v) (o .generators)
+generators-of o acc = record { few = acc .few-generators; in-range = acc .in-range }
 
--- of the first n of four generators
-pub four-code : (r : OrderRecord) (u : ℕ) → CodeWord (orderIn r) u
-    → CodeWord (codeOf (take (r .n) (r .g1 ∷ r .g2 ∷ r .g3 ∷ r .g4 ∷ [])) (r .v) (r .bits)) u
-unfolding orderIn
-four-code r u w = rw (four-are r (w .code)) (of-code (orderIn r) u w)
+-- by whole products, and a step at a time
+to-weigh : (o : Order) (u : ℕ) → CodeWord o u → ToWeigh (o .generators) (o .v) (o .N) u
+to-weigh o u w = record { word = short-word w; small-memory = omega (arith, w .code .small-memory); generators = generators-of o (w .code) }
+
+to-step : (o : Order) (u : ℕ) → CodeWord o u → ToStep (o .generators) (o .v) (stepsOf o) u
+to-step o u w = record {
+  states = record { small-memory = w .code .small-memory; long-enough = memory-fits o (w .code); few-steps = few-steps o (w .code) };
+  some-steps = some-steps o (w .code);
+  generators = generators-of o (w .code);
+  fits = wide-word o u (w .fits);
+}
+
+-- with the first n of four generators
+module _ (r : OrderRecord) (u : ℕ) (w : CodeWord (orderIn r) u) where
+  pub four-weigh : ToWeigh (take (r .n) (r .g1 ∷ r .g2 ∷ r .g3 ∷ r .g4 ∷ [])) (r .v) (r .bits) u
+  unfolding orderIn
+  four-weigh = rw (four-are r (w .code)) (to-weigh (orderIn r) u w)
+
+  pub four-step : ToStep (take (r .n) (r .g1 ∷ r .g2 ∷ r .g3 ∷ r .g4 ∷ [])) (r .v) (stepsOf (orderIn r)) u
+  unfolding orderIn
+  four-step = rw (four-are r (w .code)) (to-step (orderIn r) u w)
+
+-- what they give is the weight, and the codeword
+pub weighed-by-products : (o : Order) (u : ℕ) → CodeWord o u → terminated o ≡ false → cyclicWeight (o .N) (o .generators) u ≡ weight o u
+weighed-by-products o u w e =
+    ap (λ (k : ℕ). cyclicWeight k (o .generators) u) (sym (steps-tail-biting o e)) ∙ sym (weight-is-cyclic o u (w .fits) (fit-of-code o (w .code)))
+
+pub weighed-by-steps : (o : Order) (u : ℕ) → CodeWord o u → cyclicWeight (stepsOf o) (o .generators) u ≡ weight o u
+weighed-by-steps o u w = sym (weight-is-cyclic o u (w .fits) (fit-of-code o (w .code)))
+
+pub sent-by-steps : (o : Order) (u : ℕ) → CodeWord o u → cyclicCodeword (stepsOf o) (o .generators) u ≡ codeword o u
+sent-by-steps o u w = sym (codeword-is-cyclic o u (w .fits) (fit-of-code o (w .code)))
 
 module _ (o : Order) (r : ℕ) (e : r ≡ firstNo (orderQuestions T.Code o)) where
   pub accepted-code : r ≡ 0 → AcceptedCode o
@@ -72,7 +101,7 @@ module _ (o : Order) (r : ℕ) (e : r ≡ firstNo (orderQuestions T.Code o)) whe
       unfolding weighCall
       weigh-refused-late b = is-refused _ 12 _ (later-weigh 12 (sym (firstNo-no (below (o .N) u) [] b))) (suc-ne-zero 11)
 
-      pub weigh-answered : ltb u (2 ^ o .N) ≡ true → accepted (weight (o .N) (o .generators) u) ≡ weighCall o u
+      pub weigh-answered : ltb u (2 ^ o .N) ≡ true → accepted (weight o u) ≡ weighCall o u
       unfolding weighCall
       weigh-answered b = is-answered _ _ (later-weigh 0 (sym (firstNo-yes (below (o .N) u) [] b ∙ firstNo-none)))
 
@@ -83,7 +112,7 @@ module _ (o : Order) (r : ℕ) (e : r ≡ firstNo (orderQuestions T.Code o)) whe
     Outcome = Answer (Unit {0}) × List ℕ
 
     abbrev needed : ℕ
-    needed = length (o .generators) * o .N
+    needed = length (o .generators) * stepsOf o
 
     pub encode-refused-early : (r ≡ 0 → ⊥) → _≡_ {A = Outcome} (refused r, out) (encodeCall o u out)
     unfolding encodeCall encodeQuestions
@@ -108,10 +137,10 @@ module _ (o : Order) (r : ℕ) (e : r ≡ firstNo (orderQuestions T.Code o)) whe
         unfolding encodeCall
         encode-refused-late b = leaves-refused out _ 12 _ (later-encode 12 (sym (roomy ∙ firstNo-no (below (o .N) u) [] b))) (suc-ne-zero 11)
 
-        pub encode-answered : ltb u (2 ^ o .N) ≡ true → _≡_ {A = Outcome} (accepted tt, padded (length out) 0 (codeword (o .N) (o .generators) u)) (encodeCall o u out)
+        pub encode-answered : ltb u (2 ^ o .N) ≡ true → _≡_ {A = Outcome} (accepted tt, padded (length out) 0 (codeword o u)) (encodeCall o u out)
         unfolding encodeCall
         encode-answered b = leaves-answered out _ _ (later-encode 0 (sym (roomy ∙ firstNo-yes (below (o .N) u) [] b ∙ firstNo-none)))
 
--- n times N is a small number
-pub product-small : (n N : ℕ) → n ≤ 4 → N ≤ 128 → n * N ≤ 512
-product-small n N h q = mul-le-mul h q
+-- n times the steps is a small number
+pub product-small : (n steps : ℕ) → n ≤ 4 → steps ≤ mostSteps → n * steps ≤ 544
+product-small n steps h q = mul-le-mul h q

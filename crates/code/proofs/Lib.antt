@@ -5,8 +5,10 @@ pub mod Steps
 pub mod Rotation
 pub mod Cuts
 pub mod Meets
+pub mod Ends
 pub mod Loops
 pub mod Marks
+pub mod Links
 pub mod Turn
 pub mod Weights
 pub mod Sent

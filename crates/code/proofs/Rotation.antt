@@ -8,7 +8,7 @@ use native.Mathlib.Omega.{arith}
 use Rattle.lists.proofs.Sums.{sum-cong, sum-period}
 use Rattle.poly.specs.Poly.{bit}
 use Rattle.poly.proofs.Bits.{fromBits-cong, fromBits-lt, bit-fromBits, fromBits-bits}
-use Rattle.code.specs.Weight.{weight}
+use Rattle.code.specs.Model.Cyclic.{cyclicWeight}
 use Rattle.code.specs.Trellis.{place, stateAt, rotate, stepWeight}
 use Rattle.code.proofs.States.{place-lt, place-period, place-bit, stateAt-period}
 use Rattle.code.proofs.Steps.{Fit, weighs, weight-is-sum-of-steps}
@@ -55,7 +55,7 @@ weighs-rotate gs v N r u t h0 hv = ap₂ (stepWeight gs) (stateAt-rotate v N r u
 weighs-period : (gs : List ℕ) (v N u t : ℕ) → v ≤ N → weighs gs v N u (t + N) ≡ weighs gs v N u t
 weighs-period gs v N u t hv = ap₂ (stepWeight gs) (stateAt-period v N u t hv) (place-period N u t)
 
-pub weight-rotate : (gs : List ℕ) (v N r u : ℕ) → 0 < N → v ≤ N → u < 2 ^ N → Fit v gs → weight N gs (rotate N r u) ≡ weight N gs u
+pub weight-rotate : (gs : List ℕ) (v N r u : ℕ) → 0 < N → v ≤ N → u < 2 ^ N → Fit v gs → cyclicWeight N gs (rotate N r u) ≡ cyclicWeight N gs u
 weight-rotate gs v N r u h0 hv hu fit =
     weight-is-sum-of-steps gs v N (rotate N r u) h0 hv (rotate-lt N r u) fit
     ∙ sum-cong N (weighs gs v N (rotate N r u)) (λ t. weighs gs v N u (t + r)) (λ t _. weighs-rotate gs v N r u t h0 hv)

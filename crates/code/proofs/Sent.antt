@@ -15,7 +15,7 @@ use Rattle.lists.proofs.Lengths.{upFrom-last}
 use Rattle.lists.proofs.Blocks.{flatMap-none, flatMap-one, flatMap-append, flatMap-cong-on, map-cong-on}
 use Rattle.lists.proofs.Stores.{sets-append, sets-cleared}
 use Rattle.poly.specs.Poly.{bit}
-use Rattle.code.specs.Weight.{output, codeword}
+use Rattle.code.specs.Model.Cyclic.{cyclicOutput, cyclicCodeword}
 use Rattle.code.specs.Trellis.{stateAt, next, tapped, stepOutput}
 use Rattle.code.proofs.States.{place-bit, stateAt-lt, stateAt-next, stateAt-more, stateAt-none, stateAt-period}
 use Rattle.code.proofs.Steps.{Fit, output-bit}
@@ -88,15 +88,15 @@ module _ (v N : ℕ) (gs : List ℕ) (u : ℕ) where
 
   -- all steps send the codeword
   module _ (fits : v ≤ N) (word : u < 2 ^ N) (fit : Fit v gs) where
-    sentAt-outputs : (t : ℕ) → t < N → sentAt t ≡ map (λ g. bit t (output N g u)) gs
+    sentAt-outputs : (t : ℕ) → t < N → sentAt t ≡ map (λ g. bit t (cyclicOutput N g u)) gs
     unfolding sentAt stepOutput
     sentAt-outputs t h =
-        map-cong-on (tapped (2 * stateAt v N u t + bit t u)) (λ g. bit t (output N g u)) gs
+        map-cong-on (tapped (2 * stateAt v N u t + bit t u)) (λ g. bit t (cyclicOutput N g u)) gs
         (λ g m. ap (λ (x : ℕ). tapped (2 * stateAt v N u t + x) g) (sym (place-bit N u t h)) ∙ sym (output-bit v N g u t fits word (fit g m) h))
 
-    pub sent-all : sent N ≡ codeword N gs u
-    unfolding sent codeword
-    sent-all = flatMap-cong-on sentAt (λ t. map (λ g. bit t (output N g u)) gs) (upFrom 0 N) (λ t m. sentAt-outputs t (omega (arith, upFrom-bounds 0 N m)))
+    pub sent-all : sent N ≡ cyclicCodeword N gs u
+    unfolding sent cyclicCodeword
+    sent-all = flatMap-cong-on sentAt (λ t. map (λ g. bit t (cyclicOutput N g u)) gs) (upFrom 0 N) (λ t m. sentAt-outputs t (omega (arith, upFrom-bounds 0 N m)))
 
   -- the output has room for one step more
   pub step-room : (t at size : ℕ) → t < N → at ≡ t * length gs → length gs * N ≤ size → at + length gs ≤ size
@@ -111,7 +111,7 @@ module _ (v N : ℕ) (gs : List ℕ) (u : ℕ) where
 
   -- after the last step: the codeword, and zeros after it
   pub all-sent : (t : ℕ) (o₀ o out : List ℕ) → v ≤ N → u < 2 ^ N → Fit v gs → t ≡ N → length gs * N ≤ length out → o₀ ≡ replicate (length out) 0 → o ≡ sets o₀ 0 (sent t)
-      → o ≡ padded (length out) 0 (codeword N gs u)
+      → o ≡ padded (length out) 0 (cyclicCodeword N gs u)
   all-sent t o₀ o out fits word fit et room ez eo =
       eo ∙ ap₂ (λ (x y : List ℕ). sets x 0 y) ez (ap sent et)
       ∙ sets-cleared (length out) 0 (sent N) (subst (λ (k : ℕ). k ≤ length out) (sym (length-sent N ∙ mul-comm N (length gs))) room)

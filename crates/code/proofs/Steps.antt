@@ -1,4 +1,5 @@
--- The weight of a word, by cyclic products, is the sum over its steps of what each state and input weigh; so it is what its walk weighs.
+-- The weight of a word of N bits, by products modulo x^N + 1, is the sum over its steps of what each state and input weigh; so it is what its walk
+-- weighs. N is any number: on a terminated link, N + v.
 -- Assumes nothing.
 use mathlib.Core.Path.{_≡_, refl, sym, ap, ap₂, _∙_}
 use mathlib.Core.Logic.{⊎-elim}
@@ -18,7 +19,7 @@ use Rattle.poly.proofs.Sum.{for-bits, digit-times-lt, mod2-lt, bit-lt, bit-⊕,
 use Rattle.poly.proofs.Bits.{bit-first, bit-later, bit-zero, bit-low, half-lt, ones-sum, fromBits-cong}
 use Rattle.poly.proofs.Product.{⊗-zero, ⊗-step}
 use Rattle.poly.proofs.Remainder.{remainder-zero, remainder-⊕, remainder-double, remainder-small, remainder-lt}
-use Rattle.code.specs.Weight.{output, weight}
+use Rattle.code.specs.Model.Cyclic.{cyclicOutput, cyclicWeight}
 use Rattle.code.specs.Trellis.{place, stateAt, tapped, stepOutput, stepWeight, walkWeight}
 use Rattle.code.proofs.States.{place-period, place-bit, window, window-lt, window-first, window-later, stateAt-push}
 use Rattle.code.proofs.Walks.{word-follows, walkWeight-follows}
@@ -100,12 +101,12 @@ place-of-zero : (N i : ℕ) → place N 0 i ≡ 0
 unfolding place
 place-of-zero N i = bit-zero (i % N)
 
-pub output-zero : (N u : ℕ) → output N 0 u ≡ 0
-unfolding output
+pub output-zero : (N u : ℕ) → cyclicOutput N 0 u ≡ 0
+unfolding cyclicOutput
 output-zero N u = ap (remainder N (2 ^ N + 1)) (⊗-zero u) ∙ remainder-zero N (2 ^ N + 1)
 
-pub output-step : (N g u : ℕ) → u < 2 ^ N → output N g u ≡ turned N (output N (g / 2) u) ⊕ (g % 2 * u)
-unfolding output
+pub output-step : (N g u : ℕ) → u < 2 ^ N → cyclicOutput N g u ≡ turned N (cyclicOutput N (g / 2) u) ⊕ (g % 2 * u)
+unfolding cyclicOutput
 output-step N g u h =
     ap (remainder N (2 ^ N + 1)) (⊗-step u g)
     ∙ remainder-⊕ N (2 ^ N + 1) (2 * (u ⊗ (g / 2))) (g % 2 * u)
@@ -113,11 +114,11 @@ output-step N g u h =
     (remainder-small N (2 ^ N + 1) (g % 2 * u) (digit-times-lt (g % 2) u (2 ^ N) (mod2-lt g) h))
 
 place-output : (n g u t : ℕ) → u < 2 ^ suc n
-    → place (suc n) (output (suc n) g u) (suc t) ≡ differ (place (suc n) (output (suc n) (g / 2) u) t) (g % 2 * place (suc n) u (suc t))
+    → place (suc n) (cyclicOutput (suc n) g u) (suc t) ≡ differ (place (suc n) (cyclicOutput (suc n) (g / 2) u) t) (g % 2 * place (suc n) u (suc t))
 place-output n g u t h =
     ap (λ (x : ℕ). place (suc n) x (suc t)) (output-step (suc n) g u h)
-    ∙ place-⊕ (suc n) (turned (suc n) (output (suc n) (g / 2) u)) (g % 2 * u) (suc t)
-    ∙ ap₂ differ (place-turned n (output (suc n) (g / 2) u) t) (place-digit-times (suc n) (g % 2) u (suc t) (mod2-lt g))
+    ∙ place-⊕ (suc n) (turned (suc n) (cyclicOutput (suc n) (g / 2) u)) (g % 2 * u) (suc t)
+    ∙ ap₂ differ (place-turned n (cyclicOutput (suc n) (g / 2) u) t) (place-digit-times (suc n) (g % 2) u (suc t) (mod2-lt g))
 
 -- ---- the tapped the of inputs that a generator taps
 
@@ -158,17 +159,17 @@ window-back n u t j h =
     ∙ sym (ap (place (suc n) u) (omega arith) ∙ place-period (suc n) u (t + suc n - suc j))
 
 output-window : (n u k g t : ℕ) → u < 2 ^ suc n → k ≤ suc (suc n) → g < 2 ^ k
-    → place (suc n) (output (suc n) g u) t ≡ tapped (fromBits k (window (suc n) u t)) g
+    → place (suc n) (cyclicOutput (suc n) g u) t ≡ tapped (fromBits k (window (suc n) u t)) g
 unfolding fromBits
 output-window n u zero g t hu hk hg =
-    ap (λ (x : ℕ). place (suc n) (output (suc n) x u) t) (lt-one hg)
+    ap (λ (x : ℕ). place (suc n) (cyclicOutput (suc n) x u) t) (lt-one hg)
     ∙ ap (λ (x : ℕ). place (suc n) x t) (output-zero (suc n) u) ∙ place-of-zero (suc n) t
     ∙ sym (tapped-zero 0) ∙ ap (λ (x : ℕ). tapped 0 x) (sym (lt-one hg))
 output-window n u (suc k) g t hu hk hg =
     let inputs : ℕ = fromBits k (λ j. window (suc n) u t (suc j)) in
     let latest : ℕ = window (suc n) u t 0 in
-    sym (place-period (suc n) (output (suc n) g u) t)
-    ∙ ap (place (suc n) (output (suc n) g u)) (add-suc t n)
+    sym (place-period (suc n) (cyclicOutput (suc n) g u) t)
+    ∙ ap (place (suc n) (cyclicOutput (suc n) g u)) (add-suc t n)
     ∙ place-output n g u (t + n) hu
     ∙ ap₂ differ
     (output-window n u k (g / 2) (t + n) hu (le-trans (le-suc k) hk) (half-lt k g hg)
@@ -181,18 +182,18 @@ output-window n u (suc k) g t hu hk hg =
 
 -- what generator g sends at step t
 pub output-bit : (v N g u t : ℕ) → v ≤ N → u < 2 ^ N → g < 2 ^ suc v → t < N
-    → bit t (output N g u) ≡ stepOutput g (stateAt v N u t) (place N u t)
+    → bit t (cyclicOutput N g u) ≡ stepOutput g (stateAt v N u t) (place N u t)
 unfolding stepOutput
 output-bit v zero g u t hv hu hg ht = absurd (not-suc-le-zero ht)
 output-bit v (suc n) g u t hv hu hg ht =
-    sym (place-bit (suc n) (output (suc n) g u) t ht)
+    sym (place-bit (suc n) (cyclicOutput (suc n) g u) t ht)
     ∙ output-window n u (suc v) g t hu (suc-le-suc hv) hg
     ∙ ap (λ (x : ℕ). tapped x g) (sym (stateAt-push v (suc n) u t))
 
 -- ---- the weight
 
-pub output-lt : (N g u : ℕ) → 0 < N → output N g u < 2 ^ N
-unfolding output
+pub output-lt : (N g u : ℕ) → 0 < N → cyclicOutput N g u < 2 ^ N
+unfolding cyclicOutput
 output-lt N g u h = remainder-lt N (2 ^ N + 1) (u ⊗ g) (cycle-degree N h)
 
 -- every generator has at most v + 1 coefficients
@@ -203,18 +204,18 @@ Fit v gs = (g : ℕ) → List·Memᴰ g gs → g < 2 ^ suc v
 abbrev pub weighs : List ℕ → ℕ → ℕ → ℕ → ℕ → ℕ
 weighs gs v N u t = stepWeight gs (stateAt v N u t) (place N u t)
 
-pub weight-is-sum-of-steps : (gs : List ℕ) (v N u : ℕ) → 0 < N → v ≤ N → u < 2 ^ N → Fit v gs → weight N gs u ≡ sum N (weighs gs v N u)
-unfolding weight stepWeight
+pub weight-is-sum-of-steps : (gs : List ℕ) (v N u : ℕ) → 0 < N → v ≤ N → u < 2 ^ N → Fit v gs → cyclicWeight N gs u ≡ sum N (weighs gs v N u)
+unfolding cyclicWeight stepWeight
 weight-is-sum-of-steps [] v N u h0 hv hu fit = sym (sum-zero N)
 weight-is-sum-of-steps (g ∷ gs) v N u h0 hv hu fit =
     ap₂ (λ (x y : ℕ). x + y)
-    (ones-sum N (output N g u) (output-lt N g u h0)
-    ∙ sum-cong N (λ t. bit t (output N g u)) (λ t. stepOutput g (stateAt v N u t) (place N u t)) (λ t l. output-bit v N g u t hv hu (fit g (List·Memᴰ·head refl)) l))
+    (ones-sum N (cyclicOutput N g u) (output-lt N g u h0)
+    ∙ sum-cong N (λ t. bit t (cyclicOutput N g u)) (λ t. stepOutput g (stateAt v N u t) (place N u t)) (λ t l. output-bit v N g u t hv hu (fit g (List·Memᴰ·head refl)) l))
     (weight-is-sum-of-steps gs v N u h0 hv hu (λ k l. fit k (List·Memᴰ·tail l)))
     ∙ sym (sum-add N (λ t. stepOutput g (stateAt v N u t) (place N u t)) (weighs gs v N u))
 
 -- the word's walk from its first state weighs what the word weighs
-pub walkWeight-word : (gs : List ℕ) (v N u : ℕ) → 0 < N → v ≤ N → u < 2 ^ N → Fit v gs → walkWeight gs v N (stateAt v N u 0) u ≡ weight N gs u
+pub walkWeight-word : (gs : List ℕ) (v N u : ℕ) → 0 < N → v ≤ N → u < 2 ^ N → Fit v gs → walkWeight gs v N (stateAt v N u 0) u ≡ cyclicWeight N gs u
 walkWeight-word gs v N u h0 hv hu fit =
     walkWeight-follows v N u 0 u gs N (word-follows v N u N (le-refl N))
     ∙ sum-cong N (λ j. weighs gs v N u (0 + j)) (weighs gs v N u) (λ j _. ap (weighs gs v N u) (zero-add j))

@@ -11,7 +11,7 @@ use Rattle.poly.specs.Poly.{bit, _⊕_, register}
 use Rattle.poly.proofs.Sum.{bit-lt, half-push, mod2-push, ⊕-zero-r}
 use Rattle.poly.proofs.Bits.{bit-first, bit-later, bit-low, eq-by-bits}
 use Rattle.poly.proofs.Remainder.{register-lt}
-use Rattle.code.specs.Weight.{output}
+use Rattle.code.specs.Model.Cyclic.{cyclicOutput}
 use Rattle.code.proofs.Steps.{cycle-degree, turned-first, turned-later, output-zero, output-step}
 
 -- a cut does not change the bits below it
@@ -41,23 +41,23 @@ turned-by (suc n) r b s x h hN hr eb es ex =
 
 -- ---- the output, a coefficient of the generator at a time, the highest first
 
-pub output-none : (N g u k : ℕ) → g < 2 ^ k → 0 * 2 ^ 64 + 0 ≡ output N (g / 2 ^ k) u
-output-none N g u k h = sym (ap (λ (x : ℕ). output N x u) (div-eq-of-lt h) ∙ output-zero N u)
+pub output-none : (N g u k : ℕ) → g < 2 ^ k → 0 * 2 ^ 64 + 0 ≡ cyclicOutput N (g / 2 ^ k) u
+output-none N g u k h = sym (ap (λ (x : ℕ). cyclicOutput N x u) (div-eq-of-lt h) ∙ output-zero N u)
 
-pub output-more : (N g u j r t x b : ℕ) → u < 2 ^ N → 0 < j → r ≡ output N (g / 2 ^ j) u → t ≡ register N (2 ^ N + 1) r 0 → b ≡ g / 2 ^ (j - 1) % 2
-    → x ≡ t ⊕ (b * u) → x ≡ output N (g / 2 ^ (j - 1)) u
+pub output-more : (N g u j r t x b : ℕ) → u < 2 ^ N → 0 < j → r ≡ cyclicOutput N (g / 2 ^ j) u → t ≡ register N (2 ^ N + 1) r 0 → b ≡ g / 2 ^ (j - 1) % 2
+    → x ≡ t ⊕ (b * u) → x ≡ cyclicOutput N (g / 2 ^ (j - 1)) u
 output-more N g u zero r t x b hu h er et eb ex = absurd (not-suc-le-zero h)
 output-more N g u (suc j) r t x b hu h er et eb ex =
     ex
     ∙ ap₂ (λ (y z : ℕ). y ⊕ (z * u))
     (et ∙ ap (λ (y : ℕ). register N (2 ^ N + 1) y 0)
-    (er ∙ ap (λ (y : ℕ). output N y u) (ap (λ (y : ℕ). g / y) (pow-suc 2 j) ∙ sym (div-div-eq-div-mul g (2 ^ j) 2))))
+    (er ∙ ap (λ (y : ℕ). cyclicOutput N y u) (ap (λ (y : ℕ). g / y) (pow-suc 2 j) ∙ sym (div-div-eq-div-mul g (2 ^ j) 2))))
     (eb ∙ ap (λ (y : ℕ). g / 2 ^ y % 2) (sub-one (suc j)))
     ∙ sym (output-step N (g / 2 ^ j) u hu)
-    ∙ ap (λ (y : ℕ). output N (g / 2 ^ y) u) (sym (sub-one (suc j)))
+    ∙ ap (λ (y : ℕ). cyclicOutput N (g / 2 ^ y) u) (sym (sub-one (suc j)))
 
-pub output-all : (N g u j x : ℕ) → j ≡ 0 → x ≡ output N (g / 2 ^ j) u → x ≡ output N g u
-output-all N g u j x e ex = ex ∙ ap (λ (y : ℕ). output N (g / 2 ^ y) u) e ∙ ap (λ (y : ℕ). output N y u) (div-one g)
+pub output-all : (N g u j x : ℕ) → j ≡ 0 → x ≡ cyclicOutput N (g / 2 ^ j) u → x ≡ cyclicOutput N g u
+output-all N g u j x e ex = ex ∙ ap (λ (y : ℕ). cyclicOutput N (g / 2 ^ y) u) e ∙ ap (λ (y : ℕ). cyclicOutput N y u) (div-one g)
 
 pub times-zero : (w u b : ℕ) → b ≡ 0 → w ≡ w ⊕ (b * u)
 times-zero w u b e = sym (ap (λ (y : ℕ). w ⊕ (y * u)) e ∙ ap (λ (y : ℕ). w ⊕ y) (zero-mul u) ∙ ⊕-zero-r w)

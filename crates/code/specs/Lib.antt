@@ -1,3 +1,4 @@
+pub mod Links
 pub mod Weight
 pub mod Trellis
 pub mod Calls

@@ -1,6 +1,6 @@
 -- The trellis of the code: states, steps and walks.
 -- A state is the last v inputs, the latest as bit 0. A walk is its first state, its length and its input number, whose bit 0 is the first input.
--- `proofs/Steps.antt` proves that a word's weight (by cyclic products, `Weight.antt`) is what its walk weighs.
+-- N here is how many steps a word takes (`stepsOf`). That a word weighs what its walk weighs is proved in `proofs/Links.antt` and `Steps.antt`.
 -- Assumes nothing.
 use Prim.Native.Nat.{ℕ, zero, suc, _+_, _-_, _*_, _/_, _%_, _^_}
 use mathlib.Core.Bool.{Bool, false, _&&_}

@@ -3,7 +3,7 @@ ghost use mathlib.Core.Path.{_≡_};
 ghost use Prim.Native.Nat.{_+_, _*_, _^_, _<_};
 ghost use Rattle.poly.specs.Poly.{_⊕_, register};
 ghost use Rattle.poly.specs.Word.{number};
-ghost use Rattle.code.specs.Weight.{output};
+ghost use Rattle.code.specs.Model.Cyclic.{cyclicOutput};
 ghost use Rattle.code.specs.Model.Steps.{ShortWord, ToMultiply};
 use poly::word::Word;
 use poly::word::bit_at;
@@ -35,7 +35,7 @@ fn add_times(w: Word, b: u64, u: Word) -> Word
 // u times g, where g has at most v + 1 coefficients: the highest coefficient first.
 pub fn cyclic_product(u: Word, g: u64, v: u64, bits: u64) -> Word
     requires { ⌜ ToMultiply (number u) g v bits ⌝ }
-    ensures { λ r. ⌜ number r ≡ output bits g (number u) ⌝ }
+    ensures { λ r. ⌜ number r ≡ cyclicOutput bits g (number u) ⌝ }
 {
     let mut r = make(0, 0);
     let mut j = v + 1;

@@ -1,14 +1,15 @@
 // The encoder, a step at a time: the state takes one bit of the word in, and each generator sends the parity of the inputs that it taps.
+// A word has `steps` bits here: on a terminated link those are its N bits and v zeros.
 ghost use mathlib.Core.Path.{_≡_};
 ghost use mathlib.Core.List.{map};
-ghost use Prim.Native.Nat.{_+_, _≤_};
+ghost use Prim.Native.Nat.{_+_, _/_, _%_, _≤_};
 ghost use lib.ListN.{length};
 ghost use lib.Seq.{sets};
 ghost use Rattle.poly.specs.Word.{number};
 ghost use Rattle.lists.specs.Lists.{padded};
-ghost use Rattle.code.specs.Weight.{codeword};
-ghost use Rattle.code.specs.Trellis.{tapped, stateAt};
-ghost use Rattle.code.specs.Model.Steps.{HasStates, ToEncode, codeOf};
+ghost use Rattle.code.specs.Trellis.{tapped, stepWeight, stateAt};
+ghost use Rattle.code.specs.Model.Cyclic.{cyclicWeight, cyclicCodeword};
+ghost use Rattle.code.specs.Model.Steps.{HasStates, ToStep, ToSend};
 use lists::clear_bytes;
 use poly::word::Word;
 use poly::word::bit_at;
@@ -34,33 +35,64 @@ fn put_step(output: &mut [u8], at: usize, generators: &[u64], window: u64)
 }
 
 // The state before the first step: the word's last v bits.
-fn first_state(word: Word, v: u64, bits: u64) -> u64
-    requires { ⌜ HasStates v bits ⌝ }
-    ensures { λ r. ⌜ r ≡ stateAt v bits (number word) 0 ⌝ }
+fn first_state(word: Word, v: u64, steps: u64) -> u64
+    requires { ⌜ HasStates v steps ⌝ }
+    ensures { λ r. ⌜ r ≡ stateAt v steps (number word) 0 ⌝ }
 {
     let mut s = 0;
     let mut k = 0;
     while k < v {
-        s = 2 * s + bit_at(word, bits - v + k);
+        s = 2 * s + bit_at(word, steps - v + k);
         k += 1;
     }
     s
 }
 
 // All steps: the codeword, and zeros after it.
-pub fn encode_steps(output: &mut [u8], generators: &[u64], v: u64, bits: u64, word: Word)
-    requires { ⌜ ToEncode (codeOf (now generators) v bits) (number word) (length (now output)) ⌝ }
-    ensures { λ _. ⌜ now (output .exit) ≡ padded (length (now (output .entry))) 0 (codeword bits (now (generators .entry)) (number word)) ⌝ }
+pub fn encode_steps(output: &mut [u8], generators: &[u64], v: u64, steps: u64, word: Word)
+    requires { ⌜ ToSend (now generators) v steps (number word) (length (now output)) ⌝ }
+    ensures { λ _. ⌜ now (output .exit) ≡ padded (length (now (output .entry))) 0 (cyclicCodeword steps (now (generators .entry)) (number word)) ⌝ }
 {
     clear_bytes(output);
-    let mut s = first_state(word, v, bits);
+    let mut s = first_state(word, v, steps);
     let mut t = 0;
     let mut at = 0;
-    while t < bits {
+    while t < steps {
         let window = 2 * s + bit_at(word, t);
         put_step(output, at, generators, window);
         s = window % power(v);
         at += generators.len();
         t += 1;
     }
+}
+
+// The ones that all generators send where the window is x, the state and then the input.
+pub fn step_weight(generators: &[u64], x: u64) -> u64
+    requires { ⌜ length (now generators) ≤ 4 ⌝ }
+    ensures { λ r. ⌜ r ≡ stepWeight (now (generators .entry)) (x / 2) (x % 2) ⌝ }
+{
+    let mut sum = 0;
+    let mut i = 0;
+    while i < generators.len() {
+        sum += u64::count_ones(generators[i] & x) as u64 % 2;
+        i += 1;
+    }
+    sum
+}
+
+// The ones that all steps send.
+pub fn weigh_steps(generators: &[u64], v: u64, steps: u64, word: Word) -> u64
+    requires { ⌜ ToStep (now generators) v steps (number word) ⌝ }
+    ensures { λ r. ⌜ r ≡ cyclicWeight steps (now (generators .entry)) (number word) ⌝ }
+{
+    let mut s = first_state(word, v, steps);
+    let mut total = 0;
+    let mut k = 0;
+    while k < steps {
+        let window = 2 * s + bit_at(word, k);
+        total += step_weight(generators, window);
+        s = window % power(v);
+        k += 1;
+    }
+    total
 }

@@ -27,6 +27,16 @@ use Rattle.collection.proofs.Halving.{twice-half, step-low, step-high, 
 use Rattle.collection.proofs.Ways.{Way, way-none, way-more, way-less, weight-more}
 use Rattle.collection.proofs.Earlier.{less-before}
 
+-- each of the two states before s leads to it
+module _ (v : ℕ) (pos : 1 ≤ v) (s : ℕ) (h : s < 2 ^ v) where
+  pub low-leads : next v (s / 2) (s % 2) ≡ s
+  unfolding next
+  low-leads = step-low (2 ^ v) (2 ^ (v - 1)) (twice-half v pos) s h
+
+  pub high-leads : next v (s / 2 + 2 ^ (v - 1)) (s % 2) ≡ s
+  unfolding next
+  high-leads = step-high (2 ^ v) (2 ^ (v - 1)) (twice-half v pos) s h
+
 module _ (gs : List ℕ) (v i l : ℕ) (go : ℕ → ℕ → ℕ → Bool) where
   -- t steps are still to be taken back from state s; c are the inputs of the later steps, and w is what those weigh
   unfoldable pub back : ℕ → ℕ → ℕ → ℕ → List ErrorEvent
@@ -46,14 +56,6 @@ module _ (gs : List ℕ) (v i l : ℕ) (go : ℕ → ℕ → ℕ → Bool) where
   module _ (d : ℕ) (cuts : Cuts d) (pos : 1 ≤ v) (hi : i < 2 ^ v) where
     abbrev half : ℕ
     half = 2 ^ (v - 1)
-
-    low-leads : (s : ℕ) → s < 2 ^ v → next v (s / 2) (s % 2) ≡ s
-    unfolding next
-    low-leads s h = step-low (2 ^ v) half (twice-half v pos) s h
-
-    high-leads : (s : ℕ) → s < 2 ^ v → next v (s / 2 + half) (s % 2) ≡ s
-    unfolding next
-    high-leads s h = step-high (2 ^ v) half (twice-half v pos) s h
 
     walk-lt : (t c : ℕ) → walk v t i c < 2 ^ v
     unfolding walk
@@ -146,8 +148,8 @@ module _ (gs : List ℕ) (v i l : ℕ) (go : ℕ → ℕ → ℕ → Bool) where
         let fit = before-fits (2 ^ v) half twice s hs in
         let fit0 : s / 2 < 2 ^ v = omega arith in
         ⊎-elim
-        (λ first. made-more t s c w (s / 2) (low-leads s hs) e over (of-back t (s / 2) (2 * c + s % 2) (w + stepWeight gs (s / 2) (s % 2)) (omega arith) hl fit0 first))
-        (λ second. made-more t s c w (s / 2 + half) (high-leads s hs) e over (of-back t (s / 2 + half) (2 * c + s % 2) (w + stepWeight gs (s / 2 + half) (s % 2)) (omega arith) hl (fit .1) second))
+        (λ first. made-more t s c w (s / 2) (low-leads v pos s hs) e over (of-back t (s / 2) (2 * c + s % 2) (w + stepWeight gs (s / 2) (s % 2)) (omega arith) hl fit0 first))
+        (λ second. made-more t s c w (s / 2 + half) (high-leads v pos s hs) e over (of-back t (s / 2 + half) (2 * c + s % 2) (w + stepWeight gs (s / 2 + half) (s % 2)) (omega arith) hl (fit .1) second))
         (List·Memᴰ·append-cases (back t (s / 2) (2 * c + s % 2) (w + stepWeight gs (s / 2) (s % 2))) (h .1))
 
     in-back : (t s c w low : ℕ) → t ≤ l → s < 2 ^ v → Way v i l t s low → w + walkWeight gs v t i low < d

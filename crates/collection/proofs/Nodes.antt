@@ -9,6 +9,7 @@ use mathlib.Core.List.{List}
 use lib.Dec.{T, ltb, eqb, lt→ltb, ltb→lt, not-T}
 use Rattle.lists.proofs.Choices.{cond-true, cond-false, eqb-passes, eqb-fails}
 use Rattle.lists.proofs.Tests.{true-of-T, false-of-T-not}
+use Rattle.code.specs.Model.Steps.{mostSteps}
 use Rattle.collection.specs.declared.Node.{Node}
 use Rattle.needed.specs.Model.Tables.{need, stepAt, lengthAt, thresholdAt, halfAt, Tables, Step}
 use Rattle.collection.specs.Model.Backward.{goesOn, earlier, first, cut, event, on, decided, neither, onlyLow, onlyHigh, both, waysOn, lastOf, decidedLast, Walkable, Back}
@@ -68,9 +69,9 @@ earlier-node work e top ok n pos h =
     let weight = n .weight-small in
     record { state-small = before-small work e top ok n h; left-small = omega arith; weight-small = omega arith }
 
-pub first-node : (N k : ℕ) → 1 ≤ N → N ≤ 128 → k / N < 256 → k % N < N → Walkable (first N k)
+pub first-node : (steps k : ℕ) → steps ≤ mostSteps → k / steps < 256 → k % steps < steps → Walkable (first steps k)
 unfolding first
-first-node N k pos most state rem = record { state-small = state; left-small = omega arith; weight-small = omega arith }
+first-node steps k most state rem = record { state-small = state; left-small = omega arith; weight-small = omega arith }
 
 -- the sums of `step_back`
 module _ (work : List ℕ) (e : Node) (top : ℕ) (ok : Back work e top) where

@@ -7,15 +7,17 @@ use native.Mathlib.Omega.{arith}
 use mathlib.Core.Path.{_≡_, refl, sym, ap, ap₂, _∙_, subst}
 use mathlib.Core.Logic.{inl, inr, ⊎-elim}
 use mathlib.Core.Bool.{Bool, _||_}
-use mathlib.Core.List.{List, [], _∷_}
+use mathlib.Core.List.{List}
 use lib.Dec.{T, ltb, eqb, ltb→lt, lt→ltb, eqb→eq, eqb-refl}
 use lib.Pow.{pow-mono}
 use lib.ListN.{length, getD}
 use Rattle.lists.proofs.Tests.{T-or}
-use Rattle.code.specs.Trellis.{next, tapped, stepOutput, stepWeight, walk, walkWeight}
+use Rattle.code.specs.Trellis.{next, stepWeight, walk, walkWeight}
 use Rattle.code.proofs.States.{next-lt}
 use Rattle.code.proofs.Walks.{walk-last}
+use Rattle.code.proofs.Weights.{step-few}
 use Rattle.poly.specs.Poly.{bit}
+use Rattle.poly.proofs.Sum.{half-push, mod2-push}
 use Rattle.needed.specs.Model.Tables.{stepCount, stepsPlace, tablesEnd, need, stepAt, thresholdAt, halfAt, through, leastTo, Tables}
 use Rattle.needed.proofs.Filling.{least-off-start, least-at-start, least-below, least-above}
 use Rattle.collection.proofs.Halving.{twice-half, before-is}
@@ -31,11 +33,6 @@ pub record Ready (gs : List ℕ) (v d : ℕ) (work : List ℕ) : Type 0 where
 
 -- ---- sums stay small
 
-stepWeight-le : (gs : List ℕ) (s b : ℕ) → stepWeight gs s b ≤ length gs
-unfolding stepWeight stepOutput tapped
-stepWeight-le [] s b = omega arith
-stepWeight-le (g ∷ gs) s b = let rest = stepWeight-le gs s b in omega arith
-
 pub half-at-most : (v : ℕ) → v ≤ 8 → 2 ^ (v - 1) ≤ 128
 half-at-most v h = let few : v - 1 ≤ 7 = omega arith in pow-mono few
 
@@ -46,24 +43,18 @@ ready-tables gs v d work hg hv r =
     record {
       enough = r .enough;
       half-small = omega arith;
-      steps-small = λ x h. let e = r .steps x h in let le = stepWeight-le gs (x / 2) (x % 2) in omega arith;
+      steps-small = λ x h. let e = r .steps x h in let le = step-few gs (x / 2) (x % 2) in omega arith;
     }
 
 module _ (gs : List ℕ) (v d : ℕ) (work : List ℕ) (ready : Ready gs v d work) where
   pub step-is : (p b : ℕ) → p < 256 → b < 2 → stepAt work p b ≡ stepWeight gs p b
   step-is p b hp hb =
-      ap (λ (k : ℕ). getD work k 0) place ∙ ready .steps (2 * p + b) (omega arith) ∙ ap₂ (stepWeight gs) (half-of p b hb) (odd-of p b hb)
+      ap (λ (k : ℕ). getD work k 0) place ∙ ready .steps (2 * p + b) (omega arith) ∙ ap₂ (stepWeight gs) (half-push p b hb) (mod2-push p b hb)
     where
       place : stepsPlace + 2 * p + b ≡ stepsPlace + (2 * p + b)
       place = omega arith
 
-      half-of : (x y : ℕ) → y < 2 → (2 * x + y) / 2 ≡ x
-      half-of x y h = omega arith
-
-      odd-of : (x y : ℕ) → y < 2 → (2 * x + y) % 2 ≡ y
-      odd-of x y h = omega arith
-
-  module _ (i words N l : ℕ) (filled : Filled i words N work) (pos : 1 ≤ v) (most : v ≤ 8) (covers : 2 ^ v ≤ 8 * words) (hi : i < 2 ^ v) (short : l ≤ N) where
+  module _ (i words rows l : ℕ) (filled : Filled i words rows work) (pos : 1 ≤ v) (most : v ≤ 8) (covers : 2 ^ v ≤ 8 * words) (hi : i < 2 ^ v) (short : l ≤ rows) where
     pub states-few : 2 ^ v ≤ 256
     states-few = pow-mono most
 

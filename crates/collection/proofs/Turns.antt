@@ -15,7 +15,9 @@ use lib.Seq.{getD-set-other, getD-set-same}
 use Rattle.lists.specs.Lists.{upFrom}
 use Rattle.lists.proofs.Lengths.{upFrom-append}
 use Rattle.lists.proofs.Blocks.{flatMap-append}
+use Rattle.code.specs.Links.{stepsOf, eventStates}
 use Rattle.code.specs.Trellis.{stepWeight}
+use Rattle.code.specs.Model.Steps.{mostSteps}
 use Rattle.order.specs.Order.{Order}
 use Rattle.events.specs.declared.Event.{Event}
 use Rattle.events.specs.Events.{entry, eventsOfLength, eventsOfState, events}
@@ -43,50 +45,50 @@ length-elsewhere : (work : List ℕ) (x k : ℕ) → k ≢ lengthPlace → getD 
 length-elsewhere work x k n = getD-set-other work lengthPlace k x 0 n
 
 -- what a turn leaves
-pub record Turned (gs : List ℕ) (v d words N k : ℕ) (work : List ℕ) : Type 0 where
+pub record Turned (gs : List ℕ) (v d words steps k : ℕ) (work : List ℕ) : Type 0 where
   pub ready : Ready gs v d work
-  pub filled : Filled (k / N) words N work
-  pub length-is : lengthAt work ≡ k % N + 1
+  pub filled : Filled (k / steps) words steps work
+  pub length-is : lengthAt work ≡ k % steps + 1
 
-module _ (gs : List ℕ) (v d words N k : ℕ) (work : List ℕ) (hN : N ≤ 128) (hw : words ≤ 32) (hv : v ≤ 8) (ready : Ready gs v d work) where
+module _ (gs : List ℕ) (v d words steps k : ℕ) (work : List ℕ) (few : steps ≤ mostSteps) (hw : words ≤ 32) (hv : v ≤ 8) (ready : Ready gs v d work) where
   abbrev marked : List ℕ
-  marked = set work lengthPlace (k % N + 1)
+  marked = set work lengthPlace (k % steps + 1)
 
   marked-ready : Ready gs v d marked
-  marked-ready = ready-same gs v d work marked (length-set work lengthPlace (k % N + 1)) (λ j h n. length-elsewhere work (k % N + 1) j n) ready
+  marked-ready = ready-same gs v d work marked (length-set work lengthPlace (k % steps + 1)) (λ j h n. length-elsewhere work (k % steps + 1) j n) ready
 
-  marked-length : lengthAt marked ≡ k % N + 1
-  marked-length = let enough = ready .enough in getD-set-same work lengthPlace (k % N + 1) 0 (omega arith)
+  marked-length : lengthAt marked ≡ k % steps + 1
+  marked-length = let enough = ready .enough in getD-set-same work lengthPlace (k % steps + 1) 0 (omega arith)
 
-  marked-filled : Filled (k / N) words N work → Filled (k / N) words N marked
+  marked-filled : Filled (k / steps) words steps work → Filled (k / steps) words steps marked
   marked-filled filled r s hr hs =
       let half = half-at-most v hv in
       let is = marked-ready .half-is in
       let small : halfAt marked ≤ 128 = omega arith in
-      let same : Agree r marked work = record { rows = λ j h. length-elsewhere work (k % N + 1) j (λ e. absurd (omega arith)); upper = λ j h n. length-elsewhere work (k % N + 1) j n } in
-      need-cong marked work r s (length-elsewhere work (k % N + 1) (r * rowWords + s / 8) (λ e. absurd (omega arith)))
-      ∙ filled r s hr hs ∙ sym (leastTo-cong (k / N) marked work small r s same (omega arith))
+      let same : Agree r marked work = record { rows = λ j h. length-elsewhere work (k % steps + 1) j (λ e. absurd (omega arith)); upper = λ j h n. length-elsewhere work (k % steps + 1) j n } in
+      need-cong marked work r s (length-elsewhere work (k % steps + 1) (r * rowWords + s / 8) (λ e. absurd (omega arith)))
+      ∙ filled r s hr hs ∙ sym (leastTo-cong (k / steps) marked work small r s same (omega arith))
 
-  pub turn-ready : (k % N ≢ 0 → Filled (k / N) words N work) → Turned gs v d words N k (turned words N k work)
-  turn-ready before = elim (ℕ-discrete (k % N) 0) [
+  pub turn-ready : (k % steps ≢ 0 → Filled (k / steps) words steps work) → Turned gs v d words steps k (turned words steps k work)
+  turn-ready before = elim (ℕ-discrete (k % steps) 0) [
     | yes e ↦
-        let new : List ℕ = rowsFrom (k / N) words N 0 marked in
+        let new : List ℕ = rowsFrom (k / steps) words steps 0 marked in
         let half = half-at-most v hv in
         let is = marked-ready .half-is in
         let enough = marked-ready .enough in
-        let agree : Agree 0 new marked = rows-agree (k / N) words N 0 marked hw (omega arith) in
-        subst (Turned gs v d words N k) (turned-first words N k work e) (record {
-          ready = ready-same gs v d marked new (length-rowsFrom (k / N) words N 0 marked) (agree .upper) marked-ready;
-          filled = λ r s hr hs. rows-filled (k / N) words N 0 marked hw (omega arith) (omega arith) (omega arith) r s (omega arith) (omega arith) hs;
-          length-is = rows-elsewhere (k / N) words N 0 marked lengthPlace hw (inr (omega arith)) ∙ marked-length;
+        let agree : Agree 0 new marked = rows-agree (k / steps) words steps 0 marked hw (omega arith) in
+        subst (Turned gs v d words steps k) (turned-first words steps k work e) (record {
+          ready = ready-same gs v d marked new (length-rowsFrom (k / steps) words steps 0 marked) (agree .upper) marked-ready;
+          filled = λ r s hr hs. rows-filled (k / steps) words steps 0 marked hw (omega arith) (omega arith) (omega arith) r s (omega arith) (omega arith) hs;
+          length-is = rows-elsewhere (k / steps) words steps 0 marked lengthPlace hw (inr (omega arith)) ∙ marked-length;
         })
-    | no n ↦ subst (Turned gs v d words N k) (turned-later words N k work n) (record { ready = marked-ready; filled = marked-filled (before n); length-is = marked-length })
+    | no n ↦ subst (Turned gs v d words steps k) (turned-later words steps k work n) (record { ready = marked-ready; filled = marked-filled (before n); length-is = marked-length })
   ]
 
-pub length-turned : (words N k : ℕ) (work : List ℕ) → length (turned words N k work) ≡ length work
-length-turned words N k work = elim (ℕ-discrete (k % N) 0) [
-  | yes e ↦ ap length (sym (turned-first words N k work e)) ∙ length-rowsFrom (k / N) words N 0 (set work lengthPlace (k % N + 1)) ∙ length-set work lengthPlace (k % N + 1)
-  | no n ↦ ap length (sym (turned-later words N k work n)) ∙ length-set work lengthPlace (k % N + 1)
+pub length-turned : (words steps k : ℕ) (work : List ℕ) → length (turned words steps k work) ≡ length work
+length-turned words steps k work = elim (ℕ-discrete (k % steps) 0) [
+  | yes e ↦ ap length (sym (turned-first words steps k work e)) ∙ length-rowsFrom (k / steps) words steps 0 (set work lengthPlace (k % steps + 1)) ∙ length-set work lengthPlace (k % steps + 1)
+  | no n ↦ ap length (sym (turned-later words steps k work n)) ∙ length-set work lengthPlace (k % steps + 1)
 ]
 
 -- ---- before the first turn
@@ -134,14 +136,14 @@ prepared-ready gs v d work h =
 
 -- ---- all turns
 
-module _ {A : Type 0} (N : ℕ) (f : ℕ → ℕ → List A) where
+module _ {A : Type 0} (steps : ℕ) (f : ℕ → ℕ → List A) where
   -- the turns of one state
-  state-turns : (a j n : ℕ) → j + n ≤ N → flatMap (λ k. f (k / N) (k % N + 1)) (upFrom (a * N + j) n) ≡ flatMap (f a) (upFrom (j + 1) n)
+  state-turns : (a j n : ℕ) → j + n ≤ steps → flatMap (λ k. f (k / steps) (k % steps + 1)) (upFrom (a * steps + j) n) ≡ flatMap (f a) (upFrom (j + 1) n)
   unfolding upFrom flatMap
   state-turns a j zero h = refl
   state-turns a j (suc n) h =
       ap₂ _++_ (ap₂ (λ (x y : ℕ). f x (y + 1)) (digits-div a (omega arith)) (digits-mod a (omega arith)))
-      (ap (λ (x : ℕ). flatMap (λ k. f (k / N) (k % N + 1)) (upFrom x n)) (next-turn (a * N) j) ∙ state-turns a (suc j) n (omega arith) ∙ ap (λ (x : ℕ). flatMap (f a) (upFrom x n)) (one-more j))
+      (ap (λ (x : ℕ). flatMap (λ k. f (k / steps) (k % steps + 1)) (upFrom x n)) (next-turn (a * steps) j) ∙ state-turns a (suc j) n (omega arith) ∙ ap (λ (x : ℕ). flatMap (f a) (upFrom x n)) (one-more j))
     where
       next-turn : (x y : ℕ) → suc (x + y) ≡ x + suc y
       next-turn x y = omega arith
@@ -149,21 +151,21 @@ module _ {A : Type 0} (N : ℕ) (f : ℕ → ℕ → List A) where
       one-more : (y : ℕ) → suc y + 1 ≡ suc (y + 1)
       one-more y = omega arith
 
-  pub states-turns : (a m : ℕ) → flatMap (λ k. f (k / N) (k % N + 1)) (upFrom (a * N) (m * N)) ≡ flatMap (λ i. flatMap (f i) (upFrom 1 N)) (upFrom a m)
+  pub states-turns : (a m : ℕ) → flatMap (λ k. f (k / steps) (k % steps + 1)) (upFrom (a * steps) (m * steps)) ≡ flatMap (λ i. flatMap (f i) (upFrom 1 steps)) (upFrom a m)
   unfolding upFrom flatMap
-  states-turns a zero = ap (λ (x : ℕ). flatMap (λ k. f (k / N) (k % N + 1)) (upFrom (a * N) x)) (none N)
+  states-turns a zero = ap (λ (x : ℕ). flatMap (λ k. f (k / steps) (k % steps + 1)) (upFrom (a * steps) x)) (none steps)
     where
       none : (x : ℕ) → 0 * x ≡ 0
       none x = omega arith
   states-turns a (suc m) =
-      ap (λ (x : ℕ). flatMap turn (upFrom (a * N) x)) (suc-mul m N ∙ add-comm (m * N) N)
-      ∙ ap (flatMap turn) (upFrom-append (a * N) N (m * N))
-      ∙ flatMap-append turn (upFrom (a * N) N) (upFrom (a * N + N) (m * N))
-      ∙ ap₂ _++_ (ap (λ (x : ℕ). flatMap turn (upFrom x N)) (no-step (a * N)) ∙ state-turns a 0 N (omega arith))
-      (ap (λ (x : ℕ). flatMap turn (upFrom x (m * N))) (sym (suc-mul a N)) ∙ states-turns (suc a) m)
+      ap (λ (x : ℕ). flatMap turn (upFrom (a * steps) x)) (suc-mul m steps ∙ add-comm (m * steps) steps)
+      ∙ ap (flatMap turn) (upFrom-append (a * steps) steps (m * steps))
+      ∙ flatMap-append turn (upFrom (a * steps) steps) (upFrom (a * steps + steps) (m * steps))
+      ∙ ap₂ _++_ (ap (λ (x : ℕ). flatMap turn (upFrom x steps)) (no-step (a * steps)) ∙ state-turns a 0 steps (omega arith))
+      (ap (λ (x : ℕ). flatMap turn (upFrom x (m * steps))) (sym (suc-mul a steps)) ∙ states-turns (suc a) m)
     where
       turn : ℕ → List A
-      turn k = f (k / N) (k % N + 1)
+      turn k = f (k / steps) (k % steps + 1)
 
       no-step : (x : ℕ) → x ≡ x + 0
       no-step x = omega arith
@@ -175,7 +177,7 @@ map-flatMap f g (x ∷ xs) = map-append f (g x) (flatMap g xs) ∙ ap (λ l. map
 
 -- what turn k meets, and what the turns from k on meet
 unfoldable pub turnEvents : Order → ℕ → List Event
-turnEvents o k = map entry (eventsOfLength o (k / o .N) (k % o .N + 1))
+turnEvents o k = map entry (eventsOfLength o (k / stepsOf o) (k % stepsOf o + 1))
 
 unfoldable pub turnsFrom : Order → ℕ → ℕ → List Event
 turnsFrom o n k = flatMap (turnEvents o) (upFrom k n)
@@ -188,13 +190,13 @@ pub turns-none : (o : Order) (k : ℕ) → turnsFrom o 0 k ≡ []
 unfolding turnsFrom upFrom flatMap
 turns-none o k = refl
 
-pub all-turns : (o : Order) → turnsFrom o (2 ^ o .v * o .N) 0 ≡ map entry (events o)
+pub all-turns : (o : Order) → turnsFrom o (eventStates o * stepsOf o) 0 ≡ map entry (events o)
 unfolding turnsFrom turnEvents events eventsOfState
 all-turns o =
-    ap (λ (x : ℕ). flatMap (λ k. map entry (eventsOfLength o (k / o .N) (k % o .N + 1))) (upFrom x (2 ^ o .v * o .N))) (none (o .N))
-    ∙ states-turns (o .N) (λ i l. map entry (eventsOfLength o i l)) 0 (2 ^ o .v)
-    ∙ sym (map-flatMap entry (λ i. flatMap (eventsOfLength o i) (upFrom 1 (o .N))) (upFrom 0 (2 ^ o .v))
-    ∙ ap (λ (f : ℕ → List Event). flatMap f (upFrom 0 (2 ^ o .v))) (λ k i. map-flatMap entry (eventsOfLength o i) (upFrom 1 (o .N)) k))
+    ap (λ (x : ℕ). flatMap (λ k. map entry (eventsOfLength o (k / stepsOf o) (k % stepsOf o + 1))) (upFrom x (eventStates o * stepsOf o))) (none (stepsOf o))
+    ∙ states-turns (stepsOf o) (λ i l. map entry (eventsOfLength o i l)) 0 (eventStates o)
+    ∙ sym (map-flatMap entry (λ i. flatMap (eventsOfLength o i) (upFrom 1 (stepsOf o))) (upFrom 0 (eventStates o))
+    ∙ ap (λ (f : ℕ → List Event). flatMap f (upFrom 0 (eventStates o))) (λ k i. map-flatMap entry (eventsOfLength o i) (upFrom 1 (stepsOf o)) k))
   where
     none : (x : ℕ) → 0 ≡ 0 * x
     none x = omega arith

@@ -1,4 +1,4 @@
--- What the collection of error events answers and leaves, for every input. Its questions are 3, 4, 5, 7, 8, 9, 16 and 10, then 13.
+-- What the collection of error events answers and leaves, for every input. Its questions are 2, 3, 4, 5, 7, 8, 9, 16 and 10, then 13.
 -- Assumes nothing.
 use Prim.Native.Nat.{ℕ}
 use mathlib.Core.Bool.{cond}

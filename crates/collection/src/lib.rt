@@ -6,9 +6,12 @@ ghost use lib.ListN.{length, set};
 ghost use Rattle.order.specs.Questions.{firstNo, workSize};
 ghost use Rattle.order.specs.Answers.{orderIn};
 ghost use Rattle.order.specs.Model.Accepted.{AcceptedCode, Accepted};
+ghost use Rattle.code.specs.Links.{stepsOf};
+ghost use Rattle.code.specs.Model.Steps.{mostSteps};
 ghost use Rattle.needed.specs.Model.Tables.{Tables};
 ghost use Rattle.collection.specs.Model.Backward.{goesOn, earlier, finished, found, first, appends, decided, waysOn, lastOf, decidedLast, Walkable, Back, TwoBack, Descent};
 ghost use Rattle.collection.specs.Calls.{collectQuestions, collectedAs, eventTables, collected, collectCall};
+use code::link::steps_of;
 use events::Event;
 use events::clear_events;
 use events::put_event;
@@ -158,14 +161,14 @@ fn finish(work: &[u64], node: Node) -> Event
     }
 }
 
-// The node that turn k begins with.
-fn first_node(bits: u64, k: u64) -> Node
-    requires { ⌜ (1 ≤ bits) × (bits ≤ 128) ⌝ }
-    ensures { λ r. ⌜ r ≡ first bits k ⌝ }
+// The node that turn k begins with, where a word has so many steps.
+fn first_node(steps: u64, k: u64) -> Node
+    requires { ⌜ (1 ≤ steps) × (steps ≤ mostSteps) ⌝ }
+    ensures { λ r. ⌜ r ≡ first steps k ⌝ }
 {
     Node {
-        state: k / bits,
-        left: k % bits + 1,
+        state: k / steps,
+        left: k % steps + 1,
         weight: 0,
         low: 0,
         high: 0,
@@ -174,7 +177,7 @@ fn first_node(bits: u64, k: u64) -> Node
 
 // ---- what a call asks and answers
 
-// Questions 3, 4, 5, 7, 8, 9, 16 and 10: the number of the first that says no, or 0.
+// Questions 2, 3, 4, 5, 7, 8, 9, 16 and 10: the number of the first that says no, or 0.
 fn ask(order: OrderRecord, size: usize) -> u64
     ensures { λ r. ⌜ r ≡ firstNo (collectQuestions (orderIn order) size) ⌝ }
 {
@@ -191,9 +194,9 @@ fn ask(order: OrderRecord, size: usize) -> u64
 // The node that turn k of the order begins with.
 fn node_for(order: OrderRecord, k: u64) -> Node
     requires { ⌜ AcceptedCode (orderIn order) ⌝ }
-    ensures { λ r. ⌜ r ≡ first (order .bits) k ⌝ }
+    ensures { λ r. ⌜ r ≡ first (stepsOf (orderIn order)) k ⌝ }
 {
-    first_node(order.bits, k)
+    first_node(steps_of(order), k)
 }
 
 fn refuse(k: u64) -> Collected
@@ -275,7 +278,7 @@ pub fn gather(order: OrderRecord, events: &mut [Event], work: &mut [u64]) -> Col
     answer(at)
 }
 
-// The events of weight below d, by state, length and input, of the order's code on walks of at most N steps. The table has them first and zero records
+// The events of weight below d, by state, length and input, of the order's link, none longer than a word. The table has them first and zero records
 // after them, and the work area ends as zeros. Refused with 13, table and work area are all zeros; refused with an earlier number, nothing is changed.
 pub fn collect(order: OrderRecord, events: &mut [Event], work: &mut [u64]) -> Collected
     ensures { λ r. ⌜ (collectedAs r, eventTables (now (events .exit)) (now (work .exit))) ≡ collectCall (orderIn order) (eventTables (now (events .entry)) (now (work .entry))) ⌝ }

@@ -1,3 +1,4 @@
+pub mod Inputs
 pub mod Listed
 pub mod OfState
 pub mod Plains

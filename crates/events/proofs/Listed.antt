@@ -12,15 +12,16 @@ use Rattle.lists.proofs.Tests.{T-and}
 use Rattle.lists.proofs.Member.{upFrom-bounds, in-upFrom, of-filter, in-filter, of-flatMap, in-flatMap}
 use Rattle.lists.proofs.Sorted.{Sorted, sorted-known, upFrom-sorted, filter-sorted, map-sorted}
 use Rattle.lists.proofs.Keys.{By, ByThen, by-asymmetric, byThen-asymmetric, blocks-sorted}
+use Rattle.code.specs.Links.{stepsOf, eventStates}
 use Rattle.code.specs.Trellis.{walkWeight, firstMeets}
 use Rattle.order.specs.Order.{Order}
 use Rattle.events.specs.Events.{ErrorEvent, isListed, eventsOfLength, eventsOfState, events}
 
--- e is an event of the order's code, at most N steps long and of weight below d
+-- e is an event of a state that begins events, as long as a word at most, and of weight below d
 pub record Listed (o : Order) (e : ErrorEvent) : Type 0 where
-  pub state-fits : e .state < 2 ^ o .v
+  pub state-fits : e .state < eventStates o
   pub some-step : 1 ≤ e .length
-  pub at-most-N : e .length ≤ o .N
+  pub at-most-steps : e .length ≤ stepsOf o
   pub input-fits : e .input < 2 ^ e .length
   pub meets : T (firstMeets (o .v) (e .state) (e .length) (e .state) (e .input))
   pub weighs : e .weight ≡ walkWeight (o .generators) (o .v) (e .length) (e .state) (e .input)
@@ -50,25 +51,25 @@ module _ (o : Order) where
   in-eventsOfLength i l c h t =
       Memᴰ·map (eventOf o i l) (in-filter (isListed o i l) (upFrom 0 (2 ^ l)) (in-upFrom 0 (2 ^ l) (omega arith) (omega arith)) t)
 
-  of-eventsOfState : (i : ℕ) {e : ErrorEvent} → List·Memᴰ e (eventsOfState o i) → (l : ℕ) × (1 ≤ l) × (l ≤ o .N) × List·Memᴰ e (eventsOfLength o i l)
+  of-eventsOfState : (i : ℕ) {e : ErrorEvent} → List·Memᴰ e (eventsOfState o i) → (l : ℕ) × (1 ≤ l) × (l ≤ stepsOf o) × List·Memᴰ e (eventsOfLength o i l)
   unfolding eventsOfState
   of-eventsOfState i m =
-      let h = of-flatMap (eventsOfLength o i) (upFrom 1 (o .N)) m in
-      let b = upFrom-bounds 1 (o .N) (h .1) in
+      let h = of-flatMap (eventsOfLength o i) (upFrom 1 (stepsOf o)) m in
+      let b = upFrom-bounds 1 (stepsOf o) (h .1) in
       (h .0, b .0, omega arith, h .2)
 
-  listed-eventOf : (i l c : ℕ) → i < 2 ^ o .v → 1 ≤ l → l ≤ o .N → c < 2 ^ l → T (isListed o i l c) → Listed o (eventOf o i l c)
+  listed-eventOf : (i l c : ℕ) → i < eventStates o → 1 ≤ l → l ≤ stepsOf o → c < 2 ^ l → T (isListed o i l c) → Listed o (eventOf o i l c)
   unfolding isListed
-  listed-eventOf i l c hi hl hN hc t =
+  listed-eventOf i l c hi hl hT hc t =
       let w : ℕ = walkWeight (o .generators) (o .v) l i c in
       let h = T-and (firstMeets (o .v) i l i c) (ltb w (o .d)) .0 t in
-      record { state-fits = hi; some-step = hl; at-most-N = hN; input-fits = hc; meets = h .0; weighs = refl; below = ltb→lt w (o .d) (h .1) }
+      record { state-fits = hi; some-step = hl; at-most-steps = hT; input-fits = hc; meets = h .0; weighs = refl; below = ltb→lt w (o .d) (h .1) }
 
   pub of-events : {e : ErrorEvent} → List·Memᴰ e (events o) → Listed o e
   unfolding events
   of-events m =
-      let s = of-flatMap (eventsOfState o) (upFrom 0 (2 ^ o .v)) m in
-      let b = upFrom-bounds 0 (2 ^ o .v) (s .1) in
+      let s = of-flatMap (eventsOfState o) (upFrom 0 (eventStates o)) m in
+      let b = upFrom-bounds 0 (eventStates o) (s .1) in
       let l = of-eventsOfState (s .0) (s .2) in
       let c = of-eventsOfLength (s .0) (l .0) (l .3) in
       subst (Listed o) (c .3) (listed-eventOf (s .0) (l .0) (c .0) (omega arith) (l .1) (l .2) (c .1) (c .2))
@@ -88,8 +89,8 @@ module _ (o : Order) where
   unfolding eventsOfState events
   in-events {e} h =
       let inLength = in-eventsOfLength (e .state) (e .length) (e .input) (h .input-fits) (passes-listed h) in
-      let inState = in-flatMap (eventsOfLength o (e .state)) (upFrom 1 (o .N)) (in-upFrom 1 (o .N) (h .some-step) (omega arith)) inLength in
-      Memᴰ·cast (eventOf-listed h) (in-flatMap (eventsOfState o) (upFrom 0 (2 ^ o .v)) (in-upFrom 0 (2 ^ o .v) (omega arith) (omega arith)) inState)
+      let inState = in-flatMap (eventsOfLength o (e .state)) (upFrom 1 (stepsOf o)) (in-upFrom 1 (stepsOf o) (h .some-step) (omega arith)) inLength in
+      Memᴰ·cast (eventOf-listed h) (in-flatMap (eventsOfState o) (upFrom 0 (eventStates o)) (in-upFrom 0 (eventStates o) (omega arith) (omega arith)) inState)
 
   pub mem-events : (e : ErrorEvent) → List·Memᴰ e (events o) ↔ Listed o e
   mem-events e = (of-events, in-events)
@@ -109,7 +110,7 @@ module _ (o : Order) where
   unfolding eventsOfState
   eventsOfState-sorted i =
       blocks-sorted (λ e. e .length) (By (λ e. e .input)) (eventsOfLength o i) (length-of-events i)
-      (eventsOfLength-sorted i) (upFrom 1 (o .N)) (upFrom-sorted 1 (o .N))
+      (eventsOfLength-sorted i) (upFrom 1 (stepsOf o)) (upFrom-sorted 1 (stepsOf o))
 
   state-of-events : (i : ℕ) (e : ErrorEvent) → List·Memᴰ e (eventsOfState o i) → e .state ≡ i
   state-of-events i e m =
@@ -119,8 +120,8 @@ module _ (o : Order) where
   pub events-sorted : Sorted Before (events o)
   unfolding events
   events-sorted =
-      blocks-sorted (λ e. e .state) (ByThen (λ e. e .length) (By (λ e. e .input))) (eventsOfState o) state-of-events eventsOfState-sorted (upFrom 0 (2 ^ o .v))
-      (upFrom-sorted 0 (2 ^ o .v))
+      blocks-sorted (λ e. e .state) (ByThen (λ e. e .length) (By (λ e. e .input))) (eventsOfState o) state-of-events eventsOfState-sorted (upFrom 0 (eventStates o))
+      (upFrom-sorted 0 (eventStates o))
 
 -- no two events stand both before and after one another
 pub before-asymmetric : (e f : ErrorEvent) → Before e f → Before f e → ⊥

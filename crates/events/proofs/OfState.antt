@@ -9,6 +9,7 @@ use Rattle.lists.specs.Lists.{upFrom, filter}
 use Rattle.lists.proofs.Member.{in-upFrom, of-flatMap, in-flatMap}
 use Rattle.lists.proofs.Sorted.{upFrom-sorted, filter-sorted, map-sorted, flatMap-sorted}
 use Rattle.lists.proofs.Distinct.{Distinct}
+use Rattle.code.specs.Links.{stepsOf, eventStates}
 use Rattle.code.specs.Trellis.{walkWeight}
 use Rattle.order.specs.Order.{Order}
 use Rattle.events.specs.Events.{ErrorEvent, isListed, eventsOfLength, eventsOfState, events}
@@ -31,22 +32,22 @@ module _ (o : Order) where
   state-of : (i : ℕ) {e : ErrorEvent} → List·Memᴰ e (eventsOfState o i) → e .state ≡ i
   unfolding eventsOfState
   state-of i m =
-      let h = of-flatMap (eventsOfLength o i) (upFrom 1 (o .N)) m in
+      let h = of-flatMap (eventsOfLength o i) (upFrom 1 (stepsOf o)) m in
       sym (ap (λ (e : ErrorEvent). e .state) (made-of i (h .0) (h .2) .1))
 
-  pub of-eventsOfState : (i : ℕ) {e : ErrorEvent} → i < 2 ^ o .v → List·Memᴰ e (eventsOfState o i) → EventOf o i e
+  pub of-eventsOfState : (i : ℕ) {e : ErrorEvent} → i < eventStates o → List·Memᴰ e (eventsOfState o i) → EventOf o i e
   unfolding events
   of-eventsOfState i h m =
-      let all = in-flatMap (eventsOfState o) (upFrom 0 (2 ^ o .v)) (in-upFrom 0 (2 ^ o .v) (omega arith) (omega arith)) m in
+      let all = in-flatMap (eventsOfState o) (upFrom 0 (eventStates o)) (in-upFrom 0 (eventStates o) (omega arith) (omega arith)) m in
       record { state-is = state-of i m; event = of-events o all }
 
   pub in-eventsOfState : (i : ℕ) {e : ErrorEvent} → EventOf o i e → List·Memᴰ e (eventsOfState o i)
   unfolding events
   in-eventsOfState i {e} h =
-      let found = of-flatMap (eventsOfState o) (upFrom 0 (2 ^ o .v)) (in-events o (h .event)) in
+      let found = of-flatMap (eventsOfState o) (upFrom 0 (eventStates o)) (in-events o (h .event)) in
       subst (λ (j : ℕ). List·Memᴰ e (eventsOfState o j)) (sym (state-of (found .0) (found .2)) ∙ h .state-is) (found .2)
 
-  pub mem-eventsOfState : (i : ℕ) (e : ErrorEvent) → i < 2 ^ o .v → List·Memᴰ e (eventsOfState o i) ↔ EventOf o i e
+  pub mem-eventsOfState : (i : ℕ) (e : ErrorEvent) → i < eventStates o → List·Memᴰ e (eventsOfState o i) ↔ EventOf o i e
   mem-eventsOfState i e h = (of-eventsOfState i h, in-eventsOfState i)
 
   eventsOfLength-distinct : (i l : ℕ) → Distinct (eventsOfLength o i l)
@@ -63,4 +64,4 @@ module _ (o : Order) where
   eventsOfState-distinct i =
       flatMap-sorted _<_ (λ x y. x ≢ y) (eventsOfLength o i) (eventsOfLength-distinct i)
       (λ l l′ h e e′ m m′ p. let q = ap (λ (f : ErrorEvent). f .length) p in omega (arith, length-of i l m, length-of i l′ m′))
-      (upFrom 1 (o .N)) (upFrom-sorted 1 (o .N))
+      (upFrom 1 (stepsOf o)) (upFrom-sorted 1 (stepsOf o))

@@ -1,10 +1,11 @@
--- The error events of a code (document 01: events; document 000: irreducible error events), as one ordered list.
+-- The error events of a link (document 01: events; document 000: irreducible error events), as one ordered list.
 -- Assumes nothing.
 use Prim.Native.Nat.{ℕ, _/_, _%_, _^_}
 use mathlib.Core.Bool.{Bool, _&&_}
 use mathlib.Core.List.{List, map, flatMap}
 use lib.Dec.{ltb}
 use Rattle.lists.specs.Lists.{upFrom, filter, padded}
+use Rattle.code.specs.Links.{stepsOf, eventStates}
 use Rattle.code.specs.Trellis.{walkWeight, firstMeets}
 use Rattle.order.specs.Order.{Order}
 use Rattle.events.specs.declared.Event.{Event}
@@ -28,11 +29,11 @@ eventsOfLength o i l =
 
 -- the events of state i, by length
 unfoldable pub eventsOfState : Order → ℕ → List ErrorEvent
-eventsOfState o i = flatMap (eventsOfLength o i) (upFrom 1 (o .N))
+eventsOfState o i = flatMap (eventsOfLength o i) (upFrom 1 (stepsOf o))
 
 -- all events below the threshold, by state, length and input number
 unfoldable pub events : Order → List ErrorEvent
-events o = flatMap (eventsOfState o) (upFrom 0 (2 ^ o .v))
+events o = flatMap (eventsOfState o) (upFrom 0 (eventStates o))
 
 -- ---- the lent table
 

@@ -14,7 +14,7 @@ use Rattle.lists.proofs.Tests.{lt-or-ge}
 use Rattle.poly.specs.Word.{halves}
 use Rattle.order.specs.Order.{Order}
 use Rattle.order.specs.Answer.{Answer, accepted, refused}
-use Rattle.order.specs.Model.Accepted.{Accepted}
+use Rattle.order.specs.Model.Accepted.{AcceptedCode, Accepted}
 use Rattle.code.proofs.Steps.{Fit}
 use Rattle.code.proofs.Calls.{fit-of-code}
 use Rattle.events.specs.declared.Event.{Event}
@@ -29,6 +29,7 @@ use Rattle.listing.proofs.Weights.{all-words, all-counts, Held}
 
 -- what an accepted order is to the laws of words and walks
 pub record Ordered (o : Order) : Type 0 where
+  pub code : AcceptedCode o
   pub some : 0 < o .N
   pub longer : o .v ≤ o .N
   pub few : o .N ≤ 128
@@ -41,6 +42,7 @@ ordered o acc =
     let one = acc .code .some-memory in
     let long = acc .code .long-enough in
     record {
+      code = acc .code;
       some = omega arith;
       longer = long;
       few = acc .code .at-most-128;

@@ -6,6 +6,7 @@ use mathlib.Core.Path.{_≡_, sym, subst}
 use mathlib.Core.List.{List}
 use lib.ListN.{length, replicate}
 use Rattle.order.specs.Order.{Order}
+use Rattle.code.specs.Links.{stepsOf}
 use Rattle.events.specs.declared.Event.{Event}
 use Rattle.events.specs.Events.{events, eventTable}
 use Rattle.paths.specs.Paths.{paths}
@@ -61,25 +62,25 @@ module _ {o : Order} {size np nc nw : ℕ} (b : Ready o size np nc nw) where
   pub noted : (n : ℕ) → n ≡ length (events o) → Noted (b .table) 0 n
   noted n e = S.noted-all o (b .ok) size (b .table) (b .is-table) (b .long) (b .fits) np nc nw (b .enough) (b .wide) n e
 
-  pub begun : (n : ℕ) (us vs xs ls ms : List ℕ) → n ≡ length (events o) → us ≡ replicate nw 0 → vs ≡ surveyed (b .table) (n - 0) 0 us → xs ≡ indexed (o .N) vs → length xs ≡ nw → ls ≡ replicate np 0 → ms ≡ replicate nc 0 → Stands 0 0 ls ms xs
+  pub begun : (n : ℕ) (us vs xs ls ms : List ℕ) → n ≡ length (events o) → us ≡ replicate nw 0 → vs ≡ surveyed (b .table) (n - 0) 0 us → xs ≡ indexed (stepsOf o) vs → length xs ≡ nw → ls ≡ replicate np 0 → ms ≡ replicate nc 0 → Stands 0 0 ls ms xs
   begun n us vs xs ls ms e zeros is-vs is-xs kept el em =
       subst (λ (l : List ℕ). Stands 0 0 l ms xs) (sym el) (subst (λ (m : List ℕ). Stands 0 0 (replicate np 0) m xs) (sym em)
       (S.standing-first o (b .ok) size (b .table) (b .is-table) (b .long) (b .fits) np nc nw (b .enough) (b .wide) n us vs xs e zeros is-vs is-xs kept))
 
   module _ (x : Stage) where
-    pub asked : x .w < o .d → (states : ℕ) → states ≡ 2 ^ o .v → ToListWeight (b .table) (x .us) (x .ls) (x .at) states (x .w)
-    asked light states all = S.standing-requires o (b .ok) size (b .table) (b .is-table) (b .long) (b .fits) np nc nw (b .enough) (b .wide) (x .w) (x .at) (x .ls) (x .ms) (x .us) (x .stands) light states all
+    pub asked : x .w < o .d → (states first : ℕ) → S.Begins o states first → ToListWeight (b .table) (x .us) (x .ls) (x .at) states first (x .w)
+    asked light states first begins = S.standing-requires o (b .ok) size (b .table) (b .is-table) (b .long) (b .fits) np nc nw (b .enough) (b .wide) (x .w) (x .at) (x .ls) (x .ms) (x .us) (x .stands) light states first begins
 
     -- a turn: list_weight has left us′, ls′ and next
-    module _ (light : x .w < o .d) (states : ℕ) (all : states ≡ 2 ^ o .v) (us′ ls′ : List ℕ) (next : ℕ) (left : _≡_ {A = List ℕ × (List ℕ × ℕ)} (us′, (ls′, next)) (weightListed (b .table) (x .w) states (x .us) (x .ls, x .at))) where
+    module _ (light : x .w < o .d) (states first : ℕ) (begins : S.Begins o states first) (us′ ls′ : List ℕ) (next : ℕ) (left : _≡_ {A = List ℕ × (List ℕ × ℕ)} (us′, (ls′, next)) (weightListed (b .table) first (x .w) states (x .us) (x .ls, x .at))) where
       pub settles : Settles ls′ (x .ms) (x .at) next (x .w) (o .N)
-      settles = S.standing-settles o (b .ok) size (b .table) (b .is-table) (b .long) (b .fits) np nc nw (b .enough) (b .wide) (x .w) (x .at) (x .ls) (x .ms) (x .us) (x .stands) light states all us′ ls′ next left
+      settles = S.standing-settles o (b .ok) size (b .table) (b .is-table) (b .long) (b .fits) np nc nw (b .enough) (b .wide) (x .w) (x .at) (x .ls) (x .ms) (x .us) (x .stands) light states first begins us′ ls′ next left
 
       module _ (kept : length us′ ≡ nw) (w′ : ℕ) (ls″ ms″ : List ℕ) (ew : w′ ≡ laterWeight (x .w) (o .d) next (np / 2)) (el : ls″ ≡ settledPaths ls′ (x .at) next) (em : ms″ ≡ settledCounts (length ls′) (x .ms) (x .at) next (x .w)) where
         pub stands-next : Stands w′ next ls″ ms″ us′
         stands-next =
             subst (λ (w : ℕ). Stands w next ls″ ms″ us′) (sym ew) (subst (λ (l : List ℕ). Stands (laterWeight (x .w) (o .d) next (np / 2)) next l ms″ us′) (sym el) (subst (λ (m : List ℕ). Stands (laterWeight (x .w) (o .d) next (np / 2)) next (settledPaths ls′ (x .at) next) m us′) (sym em)
-            (S.standing-next o (b .ok) size (b .table) (b .is-table) (b .long) (b .fits) np nc nw (b .enough) (b .wide) (x .w) (x .at) (x .ls) (x .ms) (x .us) (x .stands) light states all us′ ls′ next left kept)))
+            (S.standing-next o (b .ok) size (b .table) (b .is-table) (b .long) (b .fits) np nc nw (b .enough) (b .wide) (x .w) (x .at) (x .ls) (x .ms) (x .us) (x .stands) light states first begins us′ ls′ next left kept)))
 
     pub nearer : x .w < o .d → (w′ next : ℕ) → w′ ≡ laterWeight (x .w) (o .d) next (np / 2) → o .d - w′ < o .d - x .w
     nearer light w′ next e = let h = later-bounds (x .w) (o .d) next (np / 2) light .0 in omega (arith, e, h, light)

@@ -1,17 +1,21 @@
 -- Where the loop of `fill` stands: the work area still knows where each state's events begin, and the table and the counts are those of the weights so
 -- far, or the table is too small (`Standing`). It begins so, a weight keeps it, and its end is the answer.
 -- Assumes nothing.
-use Prim.Native.Nat.{ℕ, _+_, _-_, _/_, _^_, _≤_, _<_}
+use Prim.Native.Nat.{ℕ, _+_, _-_, _*_, _/_, _^_, _≤_, _<_}
 use native.Mathlib.Omega.{arith}
-use mathlib.Core.Path.{_≡_, sym, ap, ap₂, _∙_, subst}
+use mathlib.Core.Path.{_≡_, refl, sym, ap, ap₂, _∙_, subst}
+use mathlib.Core.Bool.{Bool, true, false, cond}
 use mathlib.Core.Logic.{_⊎_, inl, inr}
 use mathlib.Core.List.{List}
 use lib.ListN.{length, getD, replicate}
 use Rattle.order.specs.Order.{Order}
 use Rattle.events.specs.declared.Event.{Event}
 use Rattle.events.specs.Events.{events, entry, noEvent, eventTable}
+use Rattle.events.proofs.Inputs.{whole-input}
 use Rattle.paths.specs.Paths.{paths, pathRoom}
-use Rattle.paths.specs.Model.Joining.{chainWords}
+use Rattle.paths.specs.Model.Joining.{unbegunFirst, chainWords}
+use Rattle.code.specs.Links.{terminated, stepsOf, eventStates}
+use Rattle.code.proofs.Links.{few-steps, some-steps}
 use Rattle.bounds.specs.Model.Places.{areaSize}
 use Rattle.bounds.specs.Model.Tables.{surveyed, indexed, Fits}
 use Rattle.rotations.specs.Model.Put.{puts}
@@ -23,6 +27,20 @@ use Rattle.listing.proofs.Settled.{later-bounds}
 use Rattle.listing.proofs.Weights.{Held, Full, held-first, held-sizes, settles, weight-done}
 use Rattle.listing.proofs.Answers.{Ordered}
 
+-- what `fill` is given: the number of states that begin events, and what a chain that is not begun has as its first length
+pub record Begins (o : Order) (states first : ℕ) : Type 0 where
+  pub all-states : states ≡ eventStates o
+  pub first-is : first ≡ unbegunFirst o
+
+-- where chains are turned, words have at most 128 steps
+turned-short : (o : Order) → o .N ≤ 128 → (unbegunFirst o ≡ 1 → ⊥) → stepsOf o ≤ 128
+unfolding unbegunFirst stepsOf
+turned-short o few = by (terminated o)
+  where
+    by : (b : Bool) → (_≡_ {A = ℕ} (cond b 1 0) 1 → ⊥) → cond b (o .N + o .v) (o .N) ≤ 128
+    by true n = absurd (n refl)
+    by false n = few
+
 module _ (o : Order) (ok : Ordered o) (size : ℕ) (table : List Event) (is-table : table ≡ eventTable size o) (long : length table ≡ size) (fits : length (events o) ≤ size) (np nc nw : ℕ) (enough : o .d ≤ nc) (wide : areaSize ≤ nw) where
   entries : (k : ℕ) → k < length (events o) → getD table k noEvent ≡ entry (getD (events o) k noErrorEvent)
   entries k h = ap (λ (t : List Event). getD t k noEvent) is-table ∙ entries-listed o size k h
@@ -31,7 +49,7 @@ module _ (o : Order) (ok : Ordered o) (size : ℕ) (table : List Event) (is-tabl
   in-table = omega arith
 
   at-all : (k : ℕ) → k < length (events o) → Fits (getD table k noEvent)
-  at-all k h = noteworthy o (ok .some) (ok .few) (ok .memory) (ok .light) table nw wide in-table entries k (omega arith) (omega arith)
+  at-all k h = noteworthy o (some-steps o (ok .code)) (few-steps o (ok .code)) (ok .memory) (ok .light) (λ e h. whole-input o (ok .code) h) table nw wide in-table entries k (omega arith) (omega arith)
 
   -- the events can be noted
   pub noted-all : (n : ℕ) → n ≡ length (events o) → Noted table 0 n
@@ -43,13 +61,13 @@ module _ (o : Order) (ok : Ordered o) (size : ℕ) (table : List Event) (is-tabl
     pub work-size : length ws ≡ nw
     pub reached : Held o (ok .some) (ok .longer) (ok .few) (ok .fit) np nc enough w at ps cs ⊎ Full o (ok .some) (ok .longer) (ok .few) (ok .fit) np nc enough w at ps cs
 
-  pub standing-first : (n : ℕ) (us vs ws : List ℕ) → n ≡ length (events o) → us ≡ replicate nw 0 → vs ≡ surveyed table (n - 0) 0 us → ws ≡ indexed (o .N) vs → length ws ≡ nw → Standing 0 0 (replicate np 0) (replicate nc 0) ws
+  pub standing-first : (n : ℕ) (us vs ws : List ℕ) → n ≡ length (events o) → us ≡ replicate nw 0 → vs ≡ surveyed table (n - 0) 0 us → ws ≡ indexed (stepsOf o) vs → length ws ≡ nw → Standing 0 0 (replicate np 0) (replicate nc 0) ws
   standing-first n us vs ws e zeros is-vs is-ws kept =
       let all : n - 0 ≡ length (events o) = omega arith in
-      let same : ws ≡ indexed (o .N) (surveyed table (length (events o)) 0 (replicate nw 0)) = is-ws ∙ ap (indexed (o .N)) (is-vs ∙ ap₂ (λ (k : ℕ) (l : List ℕ). surveyed table k 0 l) all zeros) in
+      let same : ws ≡ indexed (stepsOf o) (surveyed table (length (events o)) 0 (replicate nw 0)) = is-ws ∙ ap (indexed (stepsOf o)) (is-vs ∙ ap₂ (λ (k : ℕ) (l : List ℕ). surveyed table k 0 l) all zeros) in
       record {
         low = omega arith;
-        delimits = subst (Delimits o table) (sym same) (delimits-order o (ok .some) (ok .few) (ok .memory) (ok .light) table nw wide in-table entries);
+        delimits = subst (Delimits o table) (sym same) (delimits-order o (some-steps o (ok .code)) (few-steps o (ok .code)) (ok .memory) (ok .light) (λ e h. whole-input o (ok .code) h) table nw wide in-table entries);
         work-size = kept;
         reached = inl (held-first o (ok .some) (ok .longer) (ok .few) (ok .fit) np nc enough);
       }
@@ -72,18 +90,20 @@ module _ (o : Order) (ok : Ordered o) (size : ℕ) (table : List Event) (is-tabl
     not-full = elim (s .reached) [ inl h ↦ h | inr f ↦ absurd (let l = f .last in omega arith) ]
 
     -- what `list_weight` asks
-    pub standing-requires : (states : ℕ) → states ≡ 2 ^ o .v → ToListWeight table ws ps at states w
+    pub standing-requires : (states first : ℕ) → Begins o states first → ToListWeight table ws ps at states first w
     unfolding pathRoom
-    standing-requires states e =
+    standing-requires states first begins =
+        let e = begins .all-states in
         let d = s .delimits .few-states in
         let t = ok .light in
         let n = standing-near w at ps cs ws s in
-        record { indexed = s .delimits .indexed; few-states = omega arith; light = omega arith; near = subst (λ (x : ℕ). at ≤ x / 2 + 1) (sym (standing-sizes w at ps cs ws s .0)) n }
+        record { indexed = s .delimits .indexed; few-states = omega arith; short-to-turn = λ n. subst (λ (x : ℕ). x ≤ 128) (sym (s .delimits .bits)) (turned-short o (ok .few) (λ q. n (begins .first-is ∙ q))); light = omega arith; near = subst (λ (x : ℕ). at ≤ x / 2 + 1) (sym (standing-sizes w at ps cs ws s .0)) n }
 
-    module _ (states : ℕ) (all : states ≡ 2 ^ o .v) (ws′ ps′ : List ℕ) (next : ℕ) (left : _≡_ {A = List ℕ × (List ℕ × ℕ)} (ws′, (ps′, next)) (weightListed table w states ws (ps, at))) where
+    module _ (states first : ℕ) (begins : Begins o states first) (ws′ ps′ : List ℕ) (next : ℕ) (left : _≡_ {A = List ℕ × (List ℕ × ℕ)} (ws′, (ps′, next)) (weightListed table first w states ws (ps, at))) where
       words : _≡_ {A = List ℕ × ℕ} (ps′, next) (puts (chainWords o w) (ps, at))
       words =
-          ap (λ (x : List ℕ × (List ℕ × ℕ)). x .1) left ∙ ap (λ (k : ℕ). puts (foundFrom table w k 0 ws) (ps, at)) all
+          ap (λ (x : List ℕ × (List ℕ × ℕ)). x .1) left
+          ∙ ap₂ (λ (f k : ℕ). puts (foundFrom table f w k 0 ws) (ps, at)) (begins .first-is) (begins .all-states)
           ∙ ap (λ (l : List ℕ). puts l (ps, at)) (foundFrom-is-chainWords o table ws w (s .delimits))
 
       pub standing-settles : Settles ps′ cs at next w (o .N)
@@ -91,7 +111,7 @@ module _ (o : Order) (ok : Ordered o) (size : ℕ) (table : List Event) (is-tabl
 
       delimits-then : Delimits o table ws′
       delimits-then =
-          subst (Delimits o table) (sym (ap (λ (x : List ℕ × (List ℕ × ℕ)). x .0) left ∙ ap (λ (k : ℕ). afterStates table k 0 ws) all)) (delimits-after o table (2 ^ o .v) 0 ws (s .delimits) (whole (2 ^ o .v)))
+          subst (Delimits o table) (sym (ap (λ (x : List ℕ × (List ℕ × ℕ)). x .0) left ∙ ap (λ (k : ℕ). afterStates table k 0 ws) (begins .all-states))) (delimits-after o table (eventStates o) 0 ws (s .delimits) (whole (eventStates o)))
         where
           whole : (x : ℕ) → 0 + x ≤ x
           whole x = omega arith

@@ -1,11 +1,13 @@
 // The paths of a code below a threshold, by weight and number, listed in a lent table: the events are collected, chained weight by weight, and each
 // weight's words are sorted.
 ghost use mathlib.Core.Path.{_≡_};
-ghost use Prim.Native.Nat.{_+_, _-_, _/_, _^_, _≤_, _<_};
+ghost use Prim.Native.Nat.{_+_, _-_, _/_, _≤_, _<_};
 ghost use lib.ListN.{length};
 ghost use Rattle.order.specs.Questions.{firstNo};
 ghost use Rattle.order.specs.Answers.{orderIn};
 ghost use Rattle.order.specs.Model.Accepted.{AcceptedCode};
+ghost use Rattle.code.specs.Links.{stepsOf, eventStates};
+ghost use Rattle.paths.specs.Model.Joining.{unbegunFirst};
 ghost use Rattle.bounds.specs.Model.Places.{areaSize};
 ghost use Rattle.bounds.specs.Model.Tables.{indexed};
 ghost use Rattle.listing.specs.Calls.{listedAs, listQuestions, pathTables, listed, listCall};
@@ -13,6 +15,9 @@ ghost use Rattle.listing.specs.Model.Steps.{refusalOf, eventsOf, settled
 use bounds::index_states;
 use chains::list_weight;
 use chains::survey;
+use code::link::event_states;
+use code::link::is_terminated;
+use code::link::steps_of;
 use collection::Collected;
 use collection::gather;
 use events::Event;
@@ -22,7 +27,6 @@ use order::questions::Takes;
 use order::questions::WORK_SIZE;
 use order::record::OrderRecord;
 use order::record::ask_order;
-use poly::word::power;
 use sort::sort;
 
 // How many events and how many paths were listed, or the number of the question that says no.
@@ -33,7 +37,7 @@ pub enum Listed {
 
 // ---- what a call asks and answers
 
-// Questions 3, 4, 5, 7, 8, 9, 16 and 10: the number of the first that says no, or 0.
+// Questions 2, 3, 4, 5, 7, 8, 9, 16 and 10: the number of the first that says no, or 0.
 fn ask_list(order: OrderRecord, plain: usize, size: usize) -> u64
     ensures { λ r. ⌜ r ≡ firstNo (listQuestions (orderIn order) plain size) ⌝ }
 {
@@ -82,12 +86,13 @@ fn answer(events: usize, paths: usize) -> Listed
     Listed::Paths(events as u64, paths as u64)
 }
 
-// 2^v.
+// How many states begin events.
 fn state_count(order: OrderRecord) -> usize
     requires { ⌜ AcceptedCode (orderIn order) ⌝ }
-    ensures { λ r. ⌜ r ≡ 2 ^ order .v ⌝ }
+    ensures { λ r. ⌜ r ≡ eventStates (orderIn order) ⌝ }
 {
-    power(order.v) as usize
+    let states = event_states(order);
+    states as usize
 }
 
 fn threshold_of(order: OrderRecord) -> u64
@@ -96,12 +101,22 @@ fn threshold_of(order: OrderRecord) -> u64
     order.d
 }
 
+// What a chain that is not begun has as its first event's length: 0, or 1 on a terminated link, where no chain is turned.
+fn unbegun_first(order: OrderRecord) -> u64
+    ensures { λ r. ⌜ r ≡ unbegunFirst (orderIn order) ⌝ }
+{
+    if is_terminated(order) {
+        return 1;
+    }
+    0
+}
+
 // Where each state's events begin, once they are noted.
 fn index(order: OrderRecord, work: &mut [u64])
-    requires { ⌜ areaSize ≤ length (now work) ⌝ }
-    ensures { λ _. ⌜ now (work .exit) ≡ indexed (order .bits) (now (work .entry)) ⌝ }
+    requires { ⌜ AcceptedCode (orderIn order) × (areaSize ≤ length (now work)) ⌝ }
+    ensures { λ _. ⌜ now (work .exit) ≡ indexed (stepsOf (orderIn order)) (now (work .entry)) ⌝ }
 {
-    index_states(work, order.bits);
+    index_states(work, steps_of(order));
 }
 
 // ---- weight by weight
@@ -148,11 +163,12 @@ pub fn fill(
     index(order, work);
     let states = state_count(order);
     let d = threshold_of(order);
+    let first = unbegun_first(order);
     let room = paths.len() / 2;
     let mut at = 0;
     let mut w = 0;
     while w < d {
-        let next = list_weight(events, work, paths, at, states, w);
+        let next = list_weight(events, work, paths, at, states, first, w);
         settle(order, paths, plain, at, next, w);
         at = next;
         let later = later_weight(w, d, next, room);

@@ -9,14 +9,12 @@ use mathlib.Core.Path.{_≡_, refl, sym, ap, ap₂, _∙_, subst}
 use mathlib.Core.Bool.{Bool, true, false, not, cond}
 use mathlib.Core.Logic.{_≢_}
 use mathlib.Core.List.{List}
-use lib.Bits.{bitAnd, and-lt}
-use lib.Count.{ones, ones-le}
 use lib.Dec.{T, leb, eqb, lit<, leb→le, le→leb, not-T}
-use lib.ListN.{length, getD, set, drop, length-set, drop-of-length-le}
+use lib.ListN.{length, getD, set, length-set}
 use Rattle.lists.proofs.Choices.{cond-true, cond-false, eqb-passes, eqb-fails}
-use Rattle.lists.proofs.Scan.{drop-next}
 use Rattle.poly.proofs.Shifts.{shl-one}
-use Rattle.code.specs.Trellis.{tapped, stepOutput, stepWeight}
+use Rattle.code.specs.Trellis.{stepWeight}
+use Rattle.code.specs.Model.Steps.{mostSteps}
 use Rattle.needed.specs.Model.Tables.{rowWords, stepCount, stepsPlace, lengthPlace, thresholdPlace, halfPlace, need, stepAt, halfAt, through, leastTo, packed, rowFrom, rowsFrom, weightsFrom, prepared, turned, Tables, Step}
 use Rattle.needed.proofs.Places.{In, region, rowsRegion, stepsRegion, halfRegion, store-leaves}
 
@@ -193,31 +191,11 @@ tables-set work ok i j x h n at =
           omega arith;
     }
 
-pub tables-rowFrom : (i t n q : ℕ) (work : List ℕ) → t < 128 → q + n ≤ 32 → Tables work → Tables (rowFrom i t n q work)
+pub tables-rowFrom : (i t n q : ℕ) (work : List ℕ) → t < mostSteps → q + n ≤ rowWords → Tables work → Tables (rowFrom i t n q work)
 unfolding rowFrom
 tables-rowFrom i t zero q work h g ok = ok
 tables-rowFrom i t (suc n) q work h g ok =
     tables-rowFrom i t n (q + 1) (set work (t * rowWords + q) (packed work i t 8 (q * 8))) h (omega arith) (tables-set work ok rowsRegion (t * rowWords + q) (packed work i t 8 (q * 8)) (lit< tt) (λ e. absurd (omega arith)) record { from = omega arith; before = omega arith })
-
--- ---- the weight of a step
-
--- what the generators from j on add
-pub weight-turn : (gs : List ℕ) (x j : ℕ) → j < length gs
-    → stepWeight (drop j gs) (x / 2) (x % 2) ≡ ones (bitAnd (getD gs j 0) x) % 2 + stepWeight (drop (j + 1) gs) (x / 2) (x % 2)
-unfolding stepWeight stepOutput tapped
-weight-turn gs x j h =
-    ap (λ (l : List ℕ). stepWeight l (x / 2) (x % 2)) (drop-next (λ _. true) gs 0 j h)
-    ∙ ap (λ (y : ℕ). ones (bitAnd (getD gs j 0) y) % 2 + stepWeight (drop (j + 1) gs) (x / 2) (x % 2)) (halves x)
-  where
-    halves : (y : ℕ) → 2 * (y / 2) + y % 2 ≡ y
-    halves y = omega arith
-
--- the last generator is behind
-pub weight-none : (gs : List ℕ) (x j sum : ℕ) → length gs ≤ j → sum + stepWeight (drop j gs) (x / 2) (x % 2) ≡ stepWeight gs (x / 2) (x % 2) → sum ≡ stepWeight gs (x / 2) (x % 2)
-unfolding stepWeight
-weight-none gs x j sum h e =
-    let none : stepWeight (drop j gs) (x / 2) (x % 2) ≡ 0 = ap (λ (l : List ℕ). stepWeight l (x / 2) (x % 2)) (drop-of-length-le gs h) in
-    omega arith
 
 -- ---- entries are small
 
@@ -239,13 +217,6 @@ need-small work t s = omega arith
 pub least-found : (work : List ℕ) (i t s a b m r : ℕ) → (t ≡ 0 → ⊥) → i < s → a ≡ through work (t - 1) (s / 2) (s % 2)
     → b ≡ through work (t - 1) (s / 2 + halfAt work) (s % 2) → m ≡ min a b → r ≡ min 64 m → r ≡ leastTo work i t s
 least-found work i t s a b m r n h ea eb em er = er ∙ ap (min 64) (em ∙ ap₂ min ea eb) ∙ least-above work i t s n h
-
-pub weight-again : (gs : List ℕ) (x j sum : ℕ) → j < length gs → sum + stepWeight (drop j gs) (x / 2) (x % 2) ≡ stepWeight gs (x / 2) (x % 2)
-    → sum + ones (bitAnd (getD gs j 0) x) % 2 + stepWeight (drop (j + 1) gs) (x / 2) (x % 2) ≡ stepWeight gs (x / 2) (x % 2)
-weight-again gs x j sum h e = let step = weight-turn gs x j h in omega arith
-
-pub ones-fit : (g x : ℕ) → g < 2 ^ 64 → x < 2 ^ 64 → ones (bitAnd g x) < 2 ^ 64
-ones-fit g x hg hx = let few = ones-le 64 (bitAnd g x) (and-lt 64 g x hg hx) in omega arith
 
 pub row-begin : (i t words : ℕ) (work : List ℕ) → rowFrom i t (words - 0) 0 work ≡ rowFrom i t words 0 work
 row-begin i t words work = ap (λ (n : ℕ). rowFrom i t n 0 work) (all-left words)
@@ -274,13 +245,13 @@ pub weights-again : (gs : List ℕ) (x : ℕ) (work work₀ : List ℕ) (w : ℕ
 weights-again gs x work work₀ w h e inv =
     ap (λ (y : ℕ). weightsFrom gs (stepCount - (x + 1)) (x + 1) (set work (stepsPlace + x) y)) e ∙ weights-turn gs x work h ∙ inv
 
-pub turned-first : (words N k : ℕ) (work : List ℕ) → k % N ≡ 0 → rowsFrom (k / N) words N 0 (set work lengthPlace (k % N + 1)) ≡ turned words N k work
+pub turned-first : (words steps k : ℕ) (work : List ℕ) → k % steps ≡ 0 → rowsFrom (k / steps) words steps 0 (set work lengthPlace (k % steps + 1)) ≡ turned words steps k work
 unfolding turned
-turned-first words N k work e = sym (cond-true (eqb (k % N) 0) (rowsFrom (k / N) words N 0 (set work lengthPlace (k % N + 1))) (set work lengthPlace (k % N + 1)) (eqb-passes (k % N) 0 e))
+turned-first words steps k work e = sym (cond-true (eqb (k % steps) 0) (rowsFrom (k / steps) words steps 0 (set work lengthPlace (k % steps + 1))) (set work lengthPlace (k % steps + 1)) (eqb-passes (k % steps) 0 e))
 
-pub turned-later : (words N k : ℕ) (work : List ℕ) → (k % N ≡ 0 → ⊥) → set work lengthPlace (k % N + 1) ≡ turned words N k work
+pub turned-later : (words steps k : ℕ) (work : List ℕ) → (k % steps ≡ 0 → ⊥) → set work lengthPlace (k % steps + 1) ≡ turned words steps k work
 unfolding turned
-turned-later words N k work n = sym (cond-false (eqb (k % N) 0) (rowsFrom (k / N) words N 0 (set work lengthPlace (k % N + 1))) (set work lengthPlace (k % N + 1)) (eqb-fails (k % N) 0 n))
+turned-later words steps k work n = sym (cond-false (eqb (k % steps) 0) (rowsFrom (k / steps) words steps 0 (set work lengthPlace (k % steps + 1))) (set work lengthPlace (k % steps + 1)) (eqb-fails (k % steps) 0 n))
 
 pub prepared-is : (gs : List ℕ) (v d : ℕ) (work last : List ℕ) → 1 ≤ v → v ≤ 8
     → last ≡ weightsFrom gs stepCount 0 (set (set work thresholdPlace d) halfPlace (1 * 2 ^ (v - 1) % 2 ^ 64)) → last ≡ prepared gs v d work

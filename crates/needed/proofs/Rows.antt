@@ -13,6 +13,7 @@ use lib.Dec.{leb}
 use lib.Pow.{pow-add}
 use lib.ListN.{length, getD, set, length-set}
 use lib.Seq.{getD-set-other, getD-set-same}
+use Rattle.code.specs.Model.Steps.{mostSteps}
 use Rattle.needed.specs.Model.Tables.{rowWords, stepsPlace, lengthPlace, halfPlace, need, halfAt, through, leastTo, packed, rowFrom, rowsFrom}
 use Rattle.needed.proofs.Filling.{leastTo-small, length-rowFrom}
 
@@ -97,11 +98,11 @@ row-elsewhere i t (suc n) q work k h =
     ∙ getD-set-other work (t * rowWords + q) k (packed work i t 8 (q * 8)) 0 (λ e. ⊎-elim (λ (l : k < t * rowWords + q). absurd (omega arith)) (λ (l : t * rowWords + q + suc n ≤ k). absurd (omega arith)) h)
 
 -- the rows before and the upper part are as they were
-pub row-agrees : (i t n q : ℕ) (work : List ℕ) → t < 128 → q + n ≤ 32 → Agree t (rowFrom i t n q work) work
+pub row-agrees : (i t n q : ℕ) (work : List ℕ) → t < mostSteps → q + n ≤ 32 → Agree t (rowFrom i t n q work) work
 row-agrees i t n q work ht hq =
     record { rows = λ k h. row-elsewhere i t n q work k (inl (omega arith)); upper = λ k h _. row-elsewhere i t n q work k (inr (omega arith)) }
 
-pub row-word : (i t n q : ℕ) (work : List ℕ) (j : ℕ) → t < 128 → q + n ≤ 32 → 4096 ≤ length work → halfAt work ≤ 128 → q ≤ j → j < q + n
+pub row-word : (i t n q : ℕ) (work : List ℕ) (j : ℕ) → t < mostSteps → q + n ≤ 32 → stepsPlace ≤ length work → halfAt work ≤ 128 → q ≤ j → j < q + n
     → getD (rowFrom i t n q work) (t * rowWords + j) 0 ≡ packed work i t 8 (j * 8)
 unfolding rowFrom
 row-word i t zero q work j ht hq room small h g = absurd (omega arith)
@@ -123,7 +124,7 @@ row-word i t (suc n) q work j ht hq room small h g =
           ∙ packed-cong i stored work half-small t 8 (j * 8) same (omega arith)
     ]
 
-pub row-need : (i t words : ℕ) (work : List ℕ) (s : ℕ) → t < 128 → words ≤ 32 → 4096 ≤ length work → halfAt work ≤ 128 → s < 8 * words
+pub row-need : (i t words : ℕ) (work : List ℕ) (s : ℕ) → t < mostSteps → words ≤ 32 → stepsPlace ≤ length work → halfAt work ≤ 128 → s < 8 * words
     → need (rowFrom i t words 0 work) t s ≡ leastTo work i t s
 unfolding need
 row-need i t words work s ht hw room small h =
@@ -142,7 +143,7 @@ rows-elsewhere i words (suc n) t work k hw h =
     rows-elsewhere i words n (t + 1) (rowFrom i t words 0 work) k hw (⊎-elim (λ l. inl (omega arith)) (λ l. inr (omega arith)) h)
     ∙ row-elsewhere i t words 0 work k (⊎-elim (λ l. inl (omega arith)) (λ l. inr (omega arith)) h)
 
-pub rows-agree : (i words n t : ℕ) (work : List ℕ) → words ≤ 32 → t + n ≤ 128 → Agree t (rowsFrom i words n t work) work
+pub rows-agree : (i words n t : ℕ) (work : List ℕ) → words ≤ 32 → t + n ≤ mostSteps → Agree t (rowsFrom i words n t work) work
 rows-agree i words n t work hw hn =
     record { rows = λ k h. rows-elsewhere i words n t work k hw (inl h); upper = λ k h _. rows-elsewhere i words n t work k hw (inr (omega arith)) }
 
@@ -150,7 +151,7 @@ rows-agree i words n t work hw hn =
 abbrev pub Filled : ℕ → ℕ → ℕ → List ℕ → Type 0
 Filled i words rows work = (r s : ℕ) → r < rows → s < 8 * words → need work r s ≡ leastTo work i r s
 
-pub rows-filled : (i words n t : ℕ) (work : List ℕ) → words ≤ 32 → t + n ≤ 128 → 4096 ≤ length work → halfAt work ≤ 128
+pub rows-filled : (i words n t : ℕ) (work : List ℕ) → words ≤ 32 → t + n ≤ mostSteps → stepsPlace ≤ length work → halfAt work ≤ 128
     → (r s : ℕ) → t ≤ r → r < t + n → s < 8 * words → need (rowsFrom i words n t work) r s ≡ leastTo (rowsFrom i words n t work) i r s
 unfolding rowsFrom
 rows-filled i words zero t work hw hn room small r s h g hs = absurd (omega arith)
@@ -158,7 +159,7 @@ rows-filled i words (suc n) t work hw hn room small r s h g hs =
     let first : List ℕ = rowFrom i t words 0 work in
     let final : List ℕ = rowsFrom i words n (t + 1) first in
     let size : length first ≡ length work = length-rowFrom i t words 0 work in
-    let ht : t < 128 = omega arith in
+    let ht : t < mostSteps = omega arith in
     let half-same : halfAt first ≡ halfAt work = row-elsewhere i t words 0 work halfPlace (inr (omega arith)) in
     let later : Agree (t + 1) final first = rows-agree i words n (t + 1) first hw (omega arith) in
     let half-final : halfAt final ≡ halfAt first = later .upper halfPlace (omega arith) (λ e. absurd (omega arith)) in

@@ -1,14 +1,16 @@
-// The turns of the collection as an order gives them: a length from 1 to N for each of 2^v states.
+// The turns of the collection as an order gives them: for each state that begins events, a length from 1 to the steps of a word.
 ghost use mathlib.Core.Path.{_≡_};
 ghost use Prim.Native.Nat.{_+_, _*_, _/_, _^_, _≤_};
 ghost use lib.ListN.{length};
 ghost use Rattle.order.specs.Answers.{orderIn};
 ghost use Rattle.order.specs.Model.Accepted.{AcceptedCode};
+ghost use Rattle.code.specs.Links.{stepsOf, eventStates};
 ghost use Rattle.needed.specs.Model.Tables.{tablesEnd, prepared, turned, Tables};
 use super::tables::prepare;
 use super::tables::turn;
+use code::link::event_states;
+use code::link::steps_of;
 use order::record::OrderRecord;
-use poly::word::power;
 
 // The work area is prepared for the order.
 pub fn prepare_for(order: OrderRecord, work: &mut [u64])
@@ -23,9 +25,11 @@ pub fn prepare_for(order: OrderRecord, work: &mut [u64])
 // How many turns there are.
 pub fn turn_count(order: OrderRecord) -> u64
     requires { ⌜ AcceptedCode (orderIn order) ⌝ }
-    ensures { λ r. ⌜ r ≡ 2 ^ order .v * order .bits ⌝ }
+    ensures { λ r. ⌜ r ≡ eventStates (orderIn order) * stepsOf (orderIn order) ⌝ }
 {
-    power(order.v) * order.bits
+    let states = event_states(order);
+    let steps = steps_of(order);
+    states * steps
 }
 
 // The words of a row of least weights, eight states to a word.
@@ -39,7 +43,9 @@ fn row_words(v: u64) -> u64
 // Turn k: the length, and for a new state its least weights.
 pub fn turn_for(order: OrderRecord, work: &mut [u64], k: u64)
     requires { ⌜ AcceptedCode (orderIn order) × Tables (now work) ⌝ }
-    ensures { λ _. ⌜ now (work .exit) ≡ turned ((2 ^ order .v + 7) / 8) (order .bits) k (now (work .entry)) ⌝ }
+    ensures { λ _. ⌜ now (work .exit) ≡ turned ((2 ^ order .v + 7) / 8) (stepsOf (orderIn order)) k (now (work .entry)) ⌝ }
 {
-    turn(work, row_words(order.v), order.bits, k);
+    let words = row_words(order.v);
+    let steps = steps_of(order);
+    turn(work, words, steps, k);
 }

@@ -2,8 +2,8 @@
 ghost use mathlib.Core.Path.{_≡_};
 ghost use Prim.Native.Nat.{_+_, _-_, _*_, _/_, _%_, _<_, _≤_, min};
 ghost use lib.ListN.{length};
-ghost use Rattle.code.specs.Trellis.{stepWeight};
 ghost use Rattle.needed.specs.Model.Tables.{stepCount, tablesEnd, need, stepAt, through, leastTo, packed, rowFrom, rowsFrom, weightsFrom, prepared, turned, Entry, Step, Rows, Unprepared};
+use code::encoder::step_weight;
 
 // The places of the work area.
 const ROW_WORDS: u64 = 32;
@@ -113,20 +113,6 @@ fn fill_rows(work: &mut [u64], i: u64, words: u64, rows: u64)
     }
 }
 
-// What the step of the register x, the state and then the input, weighs.
-fn step_weight(generators: &[u64], x: u64) -> u64
-    requires { ⌜ length (now generators) ≤ 4 ⌝ }
-    ensures { λ r. ⌜ r ≡ stepWeight (now (generators .entry)) (x / 2) (x % 2) ⌝ }
-{
-    let mut sum = 0;
-    let mut i = 0;
-    while i < generators.len() {
-        sum += u64::count_ones(generators[i] & x) as u64 % 2;
-        i += 1;
-    }
-    sum
-}
-
 fn fill_weights(generators: &[u64], work: &mut [u64])
     requires { ⌜ (length (now generators) ≤ 4) × (tablesEnd ≤ length (now work)) ⌝ }
     ensures { λ _. ⌜ now (work .exit) ≡ weightsFrom (now (generators .entry)) stepCount 0 (now (work .entry)) ⌝ }
@@ -150,13 +136,13 @@ pub fn prepare(generators: &[u64], work: &mut [u64], v: u64, d: u64)
 }
 
 // Turn k: the length, and for a new state its least weights.
-pub fn turn(work: &mut [u64], words: u64, bits: u64, k: u64)
-    requires { ⌜ Rows (now work) words bits × (1 ≤ bits) ⌝ }
-    ensures { λ _. ⌜ now (work .exit) ≡ turned words bits k (now (work .entry)) ⌝ }
+pub fn turn(work: &mut [u64], words: u64, steps: u64, k: u64)
+    requires { ⌜ Rows (now work) words steps × (1 ≤ steps) ⌝ }
+    ensures { λ _. ⌜ now (work .exit) ≡ turned words steps k (now (work .entry)) ⌝ }
 {
-    let step = k % bits;
+    let step = k % steps;
     work[LENGTH_AT] = step + 1;
     if step == 0 {
-        fill_rows(work, k / bits, words, bits);
+        fill_rows(work, k / steps, words, steps);
     }
 }

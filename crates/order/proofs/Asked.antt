@@ -29,9 +29,9 @@ numbered-++ (q ∷ qs) rest n m =
     let numbers = T-and (ltb 0 (q .0)) _ .0 n in
     T-and (ltb 0 (q .0)) _ .1 (numbers .0, numbered-++ qs rest (numbers .1) m)
 
-pub numbered-shape : (n v N : ℕ) → Numbered (shapeQuestions n v N)
+pub numbered-shape : (version n v N : ℕ) → Numbered (shapeQuestions version n v N)
 unfolding shapeQuestions
-numbered-shape n v N = tt
+numbered-shape version n v N = tt
 
 pub numbered-numbers : (takes : Takes) (o : Order) → Numbered (numberQuestions takes o)
 unfolding numberQuestions
@@ -46,13 +46,15 @@ numbered-generators v gs = tt
 pub numbered-order : (takes : Takes) (o : Order) → Numbered (orderQuestions takes o)
 unfolding orderQuestions
 numbered-order takes o =
-    numbered-++ (shapeQuestions (length (o .generators)) (o .v) (o .N)) (numberQuestions takes o ++ generatorQuestions (o .v) (o .generators)) (numbered-shape (length (o .generators)) (o .v) (o .N))
+    numbered-++ (shapeQuestions (o .version) (length (o .generators)) (o .v) (o .N)) (numberQuestions takes o ++ generatorQuestions (o .v) (o .generators)) (numbered-shape (o .version) (length (o .generators)) (o .v) (o .N))
     (numbered-++ (numberQuestions takes o) (generatorQuestions (o .v) (o .generators)) (numbered-numbers takes o) (numbered-generators (o .v) (o .generators)))
 
 -- ---- what follows
 
--- what questions 3, 4 and 5 let a call assume
-pub record Shaped (n v N : ℕ) : Type 0 where
+-- what questions 2, 3, 4 and 5 let a call assume
+pub record Shaped (version n v N : ℕ) : Type 0 where
+  pub some-version : 1 ≤ version
+  pub known-version : version ≤ 2
   pub some-generators : 2 ≤ n
   pub few-generators : n ≤ 4
   pub some-memory : 1 ≤ v
@@ -60,13 +62,14 @@ pub record Shaped (n v N : ℕ) : Type 0 where
   pub long-enough : v ≤ N
   pub at-most-128 : N ≤ 128
 
-pub shaped : (n v N : ℕ) → firstNo (shapeQuestions n v N) ≡ 0 → Shaped n v N
+pub shaped : (version n v N : ℕ) → firstNo (shapeQuestions version n v N) ≡ 0 → Shaped version n v N
 unfolding shapeQuestions
-shaped n v N e =
+shaped version n v N e =
+    let kind = range 1 2 version (asked 2 _ tt e) in
     let count = range 2 4 n (asked 3 _ tt e) in
     let memory = range 1 8 v (asked 4 _ tt e) in
     let words = range v 128 N (asked 5 _ tt e) in
-    record { some-generators = count .0; few-generators = count .1; some-memory = memory .0; small-memory = memory .1; long-enough = words .0; at-most-128 = words .1 }
+    record { some-version = kind .0; known-version = kind .1; some-generators = count .0; few-generators = count .1; some-memory = memory .0; small-memory = memory .1; long-enough = words .0; at-most-128 = words .1 }
 
 -- a lent list is long enough
 pub room-told : (need have : ℕ) (rest : List Question) → firstNo (room need have ∷ rest) ≡ 0 → (need ≤ have) × (firstNo rest ≡ 0)
@@ -81,12 +84,14 @@ degree-told o six =
 threshold-told : (o : Order) → from-to 1 64 (o .d) ≡ true → AcceptedThreshold o
 threshold-told o seven = let weights = range 1 64 (o .d) seven in record { some-weight = weights .0; at-most-64 = weights .1 }
 
-code-told : (o : Order) → firstNo (shapeQuestions (length (o .generators)) (o .v) (o .N)) ≡ 0 → firstNo (generatorQuestions (o .v) (o .generators)) ≡ 0 → AcceptedCode o
+code-told : (o : Order) → firstNo (shapeQuestions (o .version) (length (o .generators)) (o .v) (o .N)) ≡ 0 → firstNo (generatorQuestions (o .v) (o .generators)) ≡ 0 → AcceptedCode o
 unfolding generatorQuestions
 code-told o e f =
-    let shape = shaped _ _ _ e in
+    let shape = shaped _ _ _ _ e in
     let nine = both (any (hasBit (o .v)) (o .generators)) (any (hasBit 0) (o .generators)) (asked 9 _ tt f) in
     record {
+      some-version = shape .some-version;
+      known-version = shape .known-version;
       some-generators = shape .some-generators;
       few-generators = shape .few-generators;
       some-memory = shape .some-memory;
@@ -103,7 +108,7 @@ code-told o e f =
 pub accepted-order : (takes : Takes) (o : Order) → firstNo (orderQuestions takes o) ≡ 0 → AcceptedAs takes o
 unfolding orderQuestions numberQuestions AcceptedAs
 accepted-order takes o e =
-    let outer = none-in-parts _ _ (numbered-shape _ _ _) e in
+    let outer = none-in-parts _ _ (numbered-shape _ _ _ _) e in
     let inner = none-in-parts _ _ (numbered-numbers takes o) (outer .1) in
     by takes (inner .0) (code-told o (outer .0) (inner .1))
   where
@@ -144,25 +149,25 @@ module _ (r : OrderRecord) (acc : AcceptedCode (orderIn r)) where
 
 -- ---- asked part by part, as the code does
 
-module _ (takes : Takes) (r : OrderRecord) (s : ℕ) (es : s ≡ firstNo (shapeQuestions (r .n) (r .v) (r .bits))) where
-  shape-asked : s ≡ firstNo (shapeQuestions (length (orderIn r .generators)) (r .v) (r .bits))
-  shape-asked = es ∙ ap (λ (n : ℕ). firstNo (shapeQuestions n (r .v) (r .bits))) (sym (length-orderIn r))
+module _ (takes : Takes) (r : OrderRecord) (s : ℕ) (es : s ≡ firstNo (shapeQuestions (r .version) (r .n) (r .v) (r .bits))) where
+  shape-asked : s ≡ firstNo (shapeQuestions (r .version) (length (orderIn r .generators)) (r .v) (r .bits))
+  shape-asked = es ∙ ap (λ (n : ℕ). firstNo (shapeQuestions (r .version) n (r .v) (r .bits))) (sym (length-orderIn r))
 
   pub refused-by-shape : (s ≡ 0 → ⊥) → s ≡ firstNo (orderQuestions takes (orderIn r))
   unfolding orderQuestions orderIn
-  refused-by-shape n = refused-first _ _ s (numbered-shape _ _ _) shape-asked n
+  refused-by-shape n = refused-first _ _ s (numbered-shape _ _ _ _) shape-asked n
 
   module _ (zs : s ≡ 0) where
-    pub shape-of : Shaped (r .n) (r .v) (r .bits)
-    shape-of = shaped _ _ _ (sym es ∙ zs)
+    pub shape-of : Shaped (r .version) (r .n) (r .v) (r .bits)
+    shape-of = shaped _ _ _ _ (sym es ∙ zs)
 
     module _ (x : ℕ) (ex : x ≡ firstNo (numberQuestions takes (orderIn r))) where
       pub refused-by-numbers : (x ≡ 0 → ⊥) → x ≡ firstNo (orderQuestions takes (orderIn r))
       unfolding orderQuestions orderIn
-      refused-by-numbers n = refused-later _ _ s x (numbered-shape _ _ _) shape-asked zs (refused-first _ _ x (numbered-numbers takes (orderIn r)) ex n)
+      refused-by-numbers n = refused-later _ _ s x (numbered-shape _ _ _ _) shape-asked zs (refused-first _ _ x (numbered-numbers takes (orderIn r)) ex n)
 
       pub all-asked : x ≡ 0 → (y : ℕ) → y ≡ firstNo (generatorQuestions (r .v) (take (r .n) (r .g1 ∷ r .g2 ∷ r .g3 ∷ r .g4 ∷ []))) → y ≡ firstNo (orderQuestions takes (orderIn r))
       unfolding orderQuestions orderIn
       all-asked zx y ey =
-          refused-later _ _ s y (numbered-shape _ _ _) shape-asked zs
+          refused-later _ _ s y (numbered-shape _ _ _ _) shape-asked zs
           (refused-later _ _ x y (numbered-numbers takes (orderIn r)) ex zx (ey ∙ ap (λ (gs : List ℕ). firstNo (generatorQuestions (r .v) gs)) (generators-in r (shape-of .few-generators))))

@@ -2,7 +2,7 @@
 -- Assumes nothing.
 use mathlib.Core.Path.{_≡_, refl, sym, ap, ap₂, _∙_}
 use mathlib.Core.Logic.{inl, inr}
-use mathlib.Core.Bool.{false}
+use mathlib.Core.Bool.{false, cond}
 use mathlib.Core.List.{List, [], _∷_, _++_, map}
 use Prim.Native.Nat.{ℕ, zero, suc, _+_, _-_, _*_, _≤_, _<_}
 use native.Mathlib.Nat.{not-suc-le-zero, le-of-suc-le-suc}
@@ -14,7 +14,7 @@ use Rattle.lists.specs.Lists.{upFrom}
 use Rattle.lists.proofs.Lengths.{length-upFrom}
 use Rattle.lists.proofs.Tests.{lt-or-ge}
 use Rattle.lists.proofs.Tests.{and-yes, and-no, both}
-use Rattle.order.specs.Questions.{firstNo, shapeQuestions}
+use Rattle.order.specs.Questions.{Question, firstNo, from-to, shapeQuestions}
 use Rattle.order.specs.Answer.{accepted, unless}
 use Rattle.order.specs.Order.{Order, be16, lengthRight, versionRight, countRight, recordQuestions, orderQuestions, readGenerators, readFields, read}
 use Rattle.order.specs.Answers.{generatorIn, orderIn, recordOf, readingOf}
@@ -41,9 +41,9 @@ pub version-none : (bytes : List ℕ) → length bytes < 3 → false ≡ version
 unfolding versionRight
 version-none bytes h = and-no _ _ (lt-leb 3 (length bytes) h)
 
-pub version-told : (bytes : List ℕ) (x : ℕ) → 3 ≤ length bytes → x ≡ getD bytes 2 0 → eqb x 1 ≡ versionRight bytes
+pub version-told : (bytes : List ℕ) (x : ℕ) → 3 ≤ length bytes → x ≡ getD bytes 2 0 → from-to 1 2 x ≡ versionRight bytes
 unfolding versionRight
-version-told bytes x h e = ap (λ (y : ℕ). eqb y 1) e ∙ and-yes _ _ (le-leb 3 (length bytes) h)
+version-told bytes x h e = ap (from-to 1 2) e ∙ and-yes _ _ (le-leb 3 (length bytes) h)
 
 pub count-none : (bytes : List ℕ) → length bytes < 4 → false ≡ countRight bytes
 unfolding countRight
@@ -92,13 +92,13 @@ pub fields-are-record : (bytes : List ℕ) → 2 ≤ getD bytes 3 0 → getD byt
 unfolding fieldsOf recordOf readFields
 fields-are-record bytes h l e =
     let g = generators-of bytes (getD bytes 3 0) h l e in
-    λ i. record { n = sym (g .0) i; v = getD bytes 4 0; bits = getD bytes 5 0; m = getD bytes 6 0; d = getD bytes 7 0; g1 = sym (g .1) i; g2 = sym (g .2) i; g3 = sym (g .3) i; g4 = sym (g .4) i }
+    λ i. record { version = getD bytes 2 0; n = sym (g .0) i; v = getD bytes 4 0; bits = getD bytes 5 0; m = getD bytes 6 0; d = getD bytes 7 0; g1 = sym (g .1) i; g2 = sym (g .2) i; g3 = sym (g .3) i; g4 = sym (g .4) i }
 
 -- the order that the fields tell is the record's, of up to four generators
 fields-order : (bytes : List ℕ) → getD bytes 3 0 ≤ 4 → orderIn (fieldsOf bytes) ≡ readFields bytes
 unfolding fieldsOf orderIn readFields readGenerators upFrom generatorIn
 fields-order bytes h =
-    ap (λ (gs : List ℕ). record { v = getD bytes 4 0; N = getD bytes 5 0; m = getD bytes 6 0; d = getD bytes 7 0; generators = gs }) (by (getD bytes 3 0) h)
+    ap (λ (gs : List ℕ). record { version = getD bytes 2 0; v = getD bytes 4 0; N = getD bytes 5 0; m = getD bytes 6 0; d = getD bytes 7 0; generators = gs }) (by (getD bytes 3 0) h)
   where
     by : (n : ℕ) → n ≤ 4 → map (generatorIn (fieldsOf bytes)) (upFrom 0 n) ≡ readGenerators bytes n
     by zero l = refl
@@ -111,7 +111,7 @@ fields-order bytes h =
 -- the struct of an order of up to four generators tells it whole
 pub order-of-record : (o : Order) → length (o .generators) ≤ 4 → orderIn (recordOf o) ≡ o
 unfolding orderIn recordOf upFrom generatorIn
-order-of-record o h = ap (λ (gs : List ℕ). record { v = o .v; N = o .N; m = o .m; d = o .d; generators = gs }) (by (o .generators) h)
+order-of-record o h = ap (λ (gs : List ℕ). record { version = o .version; v = o .v; N = o .N; m = o .m; d = o .d; generators = gs }) (by (o .generators) h)
   where
     by : (gs : List ℕ) → length gs ≤ 4 → map (λ (k : ℕ). getD (getD gs 0 0 ∷ getD gs 1 0 ∷ getD gs 2 0 ∷ getD gs 3 0 ∷ []) k 0) (upFrom 0 (length gs)) ≡ gs
     by [] l = refl
@@ -129,15 +129,22 @@ length-read : (bytes : List ℕ) → length (readFields bytes .generators) ≡ g
 unfolding readFields readGenerators
 length-read bytes = length-map (upFrom 0 (getD bytes 3 0)) (λ (k : ℕ). be16 bytes (8 + 2 * k)) ∙ length-upFrom 0 (getD bytes 3 0)
 
-too-many : (o : Order) → 4 < length (o .generators) → firstNo (orderQuestions T.Everything o) ≡ 3
+-- the second question says no
+second-no : (q r : Question) (qs : List Question) → r .1 ≡ false → firstNo (q ∷ r ∷ qs) ≡ cond (q .1) (r .0) (q .0)
+unfolding firstNo
+second-no q r qs e = ap (λ (k : ℕ). cond (q .1) k (q .0)) (firstNo-no r qs e)
+
+-- of more than four generators, once the kind of link is asked
+too-many : (o : Order) → 4 < length (o .generators) → firstNo (orderQuestions T.Everything o) ≡ cond (from-to 1 2 (o .version)) 3 2
 unfolding orderQuestions shapeQuestions
-too-many o h = firstNo-no _ _ (sym (not-too-small 2 4 (length (o .generators)) (omega arith)) ∙ lt-leb (length (o .generators)) 4 h)
+too-many o h = second-no _ _ _ (sym (not-too-small 2 4 (length (o .generators)) (omega arith)) ∙ lt-leb (length (o .generators)) 4 h)
 
 -- ---- the reading
 
 module _ (bytes : List ℕ) where
-  -- the questions about the fields are those about the record's order: of more than four generators both say 3
+  -- the questions about the fields are those about the record's order: of more than four generators both say 3, or 2 before it
   inside-same : firstNo (orderQuestions T.Everything (orderIn (fieldsOf bytes))) ≡ firstNo (orderQuestions T.Everything (readFields bytes))
+  unfolding fieldsOf orderIn readFields
   inside-same = elim (lt-or-ge 4 (getD bytes 3 0)) [
     | inl more ↦ too-many (orderIn (fieldsOf bytes)) (rw (length-fields bytes) more) ∙ sym (too-many (readFields bytes) (rw (length-read bytes) more))
     | inr few ↦ ap (λ (o : Order). firstNo (orderQuestions T.Everything o)) (fields-order bytes few)

@@ -22,7 +22,7 @@ use Rattle.order.proofs.FirstNo.{Numbered, hasNot, last-refuses}
 -- the questions about an order that stand before 16
 abbrev before16 : Takes → Order → List Question
 before16 takes o =
-    shapeQuestions (length (o .generators)) (o .v) (o .N)
+    shapeQuestions (o .version) (length (o .generators)) (o .v) (o .N)
     ++ (numberQuestions takes o ++ (generatorRange (o .v) (o .generators) ∷ generatorEnds (o .v) (o .generators) ∷ []))
 
 -- the test says no exactly where a factor is shared

@@ -1,5 +1,5 @@
--- An order: a code, a word length, the degree of the check polynomial to be found, and a threshold on weights; the questions about it; and its
--- record of bytes, read in document 01's order of questions: 1 to 9, then 16.
+-- An order: a kind of link, a code, a word length, the degree of the check polynomial to be found, and a threshold on weights; the questions about
+-- it; and its record of bytes, read in document 01's order of questions: 1 to 9, then 16.
 -- Assumes nothing.
 use Prim.Native.Nat.{ℕ, _+_, _-_, _*_}
 use mathlib.Core.Bool.{Bool, _&&_}
@@ -7,12 +7,14 @@ use mathlib.Core.List.{List, [], _∷_, _++_, map}
 use lib.Dec.{leb, eqb}
 use lib.ListN.{length, getD}
 use Rattle.lists.specs.Lists.{upFrom}
-use Rattle.order.specs.Questions.{Question, firstNo, shapeQuestions, checkDegree, threshold, generatorQuestions}
+use Rattle.order.specs.Questions.{Question, firstNo, from-to, shapeQuestions, checkDegree, threshold, generatorQuestions}
 use Rattle.order.specs.Answer.{Answer, accepted, unless}
 use Rattle.order.specs.declared.questions.Takes.{Takes}
 use Rattle.order.specs.declared.questions.Takes.the-variants as T
 
 pub record Order : Type 0 where
+  -- the kind of link: 1 tail-biting, 2 terminated (document 01: the version of the record)
+  pub version : ℕ
   -- v: how many earlier inputs the encoder remembers
   pub v : ℕ
   -- N: the bits of a word
@@ -32,12 +34,12 @@ numberQuestions T.Code o = []
 numberQuestions T.Threshold o = threshold (o .d) ∷ []
 numberQuestions T.Everything o = checkDegree (o .N) (o .m) ∷ threshold (o .d) ∷ []
 
--- 3 to 9, then 16. Every call that takes an order asks this list first, so a new question about orders has one place.
+-- 2 to 9, then 16. Every call that takes an order asks this list first, so a new question about orders has one place.
 unfoldable pub orderQuestions : Takes → Order → List Question
 orderQuestions takes o =
-    shapeQuestions (length (o .generators)) (o .v) (o .N) ++ (numberQuestions takes o ++ generatorQuestions (o .v) (o .generators))
+    shapeQuestions (o .version) (length (o .generators)) (o .v) (o .N) ++ (numberQuestions takes o ++ generatorQuestions (o .v) (o .generators))
 
--- ---- the record: the length of what follows in 2 bytes, version 1, n, v, N, m, d, then n generators of 2 bytes each, all big-endian
+-- ---- the record: the length of what follows in 2 bytes, the version, n, v, N, m, d, then n generators of 2 bytes each, all big-endian
 
 -- two bytes at i, the higher first
 unfoldable pub be16 : List ℕ → ℕ → ℕ
@@ -50,15 +52,15 @@ readGenerators bytes n = map (λ k. be16 bytes (8 + 2 * k)) (upFrom 0 n)
 -- the order that the bytes give, whether or not they pass the questions
 unfoldable pub readFields : List ℕ → Order
 readFields bytes =
-    record { v = getD bytes 4 0; N = getD bytes 5 0; m = getD bytes 6 0; d = getD bytes 7 0; generators = readGenerators bytes (getD bytes 3 0) }
+    record { version = getD bytes 2 0; v = getD bytes 4 0; N = getD bytes 5 0; m = getD bytes 6 0; d = getD bytes 7 0; generators = readGenerators bytes (getD bytes 3 0) }
 
 -- the first two bytes say how many follow
 unfoldable pub lengthRight : List ℕ → Bool
 lengthRight bytes = leb 2 (length bytes) && eqb (be16 bytes 0) (length bytes - 2)
 
--- there is a version byte, and it is 1
+-- there is a version byte, and it is 1 or 2
 unfoldable pub versionRight : List ℕ → Bool
-versionRight bytes = leb 3 (length bytes) && eqb (getD bytes 2 0) 1
+versionRight bytes = leb 3 (length bytes) && from-to 1 2 (getD bytes 2 0)
 
 -- n is there, and the length is 6 + 2n; that n is from 2 to 4 is the first question about the order
 unfoldable pub countRight : List ℕ → Bool

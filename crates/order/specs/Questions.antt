@@ -1,5 +1,5 @@
--- Document 01's questions 3 to 12, with 16 of document 02 (C-11) after 9, each as a test, and the number of the first that says no.
--- Questions 1 and 2 are about the bytes of a record (`Order.antt`, which has the questions about a whole order); 13 to 15 are asked once events,
+-- Document 01's questions 2 to 12, with 16 of document 02 (C-11) after 9, each as a test, and the number of the first that says no.
+-- Question 1 is about the bytes of a record (`Order.antt`, which has the questions about a whole order); 13 to 15 are asked once events,
 -- paths and candidates have been counted (`search`). A call asks the questions about the values that it takes, in the order in which they stand here.
 -- Assumes nothing.
 use Prim.Native.Nat.{ℕ, _+_, _-_, _/_, _^_}
@@ -21,6 +21,10 @@ firstNo (q ∷ qs) = let rest = firstNo qs in cond (q .1) rest (q .0)
 
 unfoldable pub from-to : ℕ → ℕ → ℕ → Bool
 from-to low high x = leb low x && leb x high
+
+-- 1 is a tail-biting link, 2 a terminated one (document 01: the version of a record)
+abbrev pub linkKind : ℕ → Question
+linkKind version = (2, from-to 1 2 version)
 
 abbrev pub generatorCount : ℕ → Question
 generatorCount n = (3, from-to 2 4 n)
@@ -74,9 +78,9 @@ below N u = (12, ltb u (2 ^ N))
 
 -- ---- the questions that calls ask together
 
--- 3, 4 and 5, of n generators
-unfoldable pub shapeQuestions : ℕ → ℕ → ℕ → List Question
-shapeQuestions n v N = generatorCount n ∷ memory v ∷ wordLength v N ∷ []
+-- 2, 3, 4 and 5, of n generators
+unfoldable pub shapeQuestions : (version n v N : ℕ) → List Question
+shapeQuestions version n v N = linkKind version ∷ generatorCount n ∷ memory v ∷ wordLength v N ∷ []
 
 -- 8, 9 and 16
 unfoldable pub generatorQuestions : ℕ → List ℕ → List Question

@@ -94,10 +94,13 @@ pub fn some_has_bit(j: u64, generators: &[u64]) -> bool
     false
 }
 
-// Questions 3, 4 and 5: the number of the first that says no, or 0.
-pub fn ask_shape(n: u64, v: u64, bits: u64) -> u64
-    ensures { λ r. ⌜ r ≡ firstNo (shapeQuestions n v bits) ⌝ }
+// Questions 2, 3, 4 and 5: the number of the first that says no, or 0.
+pub fn ask_shape(version: u64, n: u64, v: u64, bits: u64) -> u64
+    ensures { λ r. ⌜ r ≡ firstNo (shapeQuestions version n v bits) ⌝ }
 {
+    if !from_to(1, 2, version) {
+        return 2;
+    }
     if !from_to(2, 4, n) {
         return 3;
     }

@@ -13,9 +13,10 @@ use super::questions::ask_shape;
 use super::questions::degree_fits;
 use super::questions::from_to;
 
-// An order as a record gives it: n generators, the first first, the others 0.
+// An order as a record gives it: the kind of link (1 tail-biting, 2 terminated); n generators, the first first, the others 0.
 #[repr(C)]
 pub struct OrderRecord {
+    pub version: u64,
     pub n: u64,
     pub v: u64,
     pub bits: u64,
@@ -61,14 +62,14 @@ fn length_right(bytes: &[u8]) -> bool
     two_at(bytes, 0) == size - 2
 }
 
-// Question 2: is there a version byte, and is it 1?
+// Question 2: is there a version byte, and is it 1 or 2?
 fn version_right(bytes: &[u8]) -> bool
     ensures { λ r. ⌜ r ≡ versionRight (now (bytes .entry)) ⌝ }
 {
     if bytes.len() < 3 {
         return false;
     }
-    byte_at(bytes, 2) == 1
+    from_to(1, 2, byte_at(bytes, 2))
 }
 
 // Question 3, of the record: is n there, and is the length 6 + 2n?
@@ -101,6 +102,7 @@ fn fields(bytes: &[u8]) -> OrderRecord
     ensures { λ r. ⌜ r ≡ fieldsOf (now (bytes .entry)) ⌝ }
 {
     OrderRecord {
+        version: byte_at(bytes, 2),
         n: byte_at(bytes, 3),
         v: byte_at(bytes, 4),
         bits: byte_at(bytes, 5),
@@ -153,11 +155,11 @@ fn ask_four(v: u64, n: usize, g1: u64, g2: u64, g3: u64, g4: u64) -> u64
     ask_generators(v, &all[..n])
 }
 
-// Questions 3 to 9, then 16, as far as the call takes them: the number of the first that says no, or 0.
+// Questions 2 to 9, then 16, as far as the call takes them: the number of the first that says no, or 0.
 pub fn ask_order(takes: Takes, o: OrderRecord) -> u64
     ensures { λ r. ⌜ r ≡ firstNo (orderQuestions takes (orderIn o)) ⌝ }
 {
-    let shape = ask_shape(o.n, o.v, o.bits);
+    let shape = ask_shape(o.version, o.n, o.v, o.bits);
     if shape != 0 {
         return shape;
     }

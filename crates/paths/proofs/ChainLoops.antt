@@ -12,6 +12,7 @@ use lib.Arith.{lt-one}
 use lib.Pow.{pow-pos, high, low, split}
 use Rattle.poly.specs.Poly.{bit}
 use Rattle.poly.proofs.Bits.{bit-low}
+use Rattle.code.specs.Links.{stepsOf, eventStates}
 use Rattle.code.specs.Trellis.{walkWeight}
 use Rattle.code.proofs.Cuts.{walkWeight-high}
 use Rattle.code.proofs.Meets.{Meets, of-firstMeets, in-firstMeets, meets-cong, meets-unique}
@@ -98,9 +99,9 @@ module _ (o : Order) (i : ℕ) where
     pub steps-are : steps events ≡ k
     pub number-is : inputNumber events ≡ c
 
-  module _ (state : i < 2 ^ o .v) where
+  module _ (state : i < eventStates o) where
     -- the first return of a loop, as an event
-    module _ (l k c : ℕ) (first : Meets (o .v) i l i c) (inside : l ≤ o .N)
+    module _ (l k c : ℕ) (first : Meets (o .v) i l i c) (inside : l ≤ stepsOf o)
         (light : walkWeight (o .generators) (o .v) (l + k) i c < o .d) where
       abbrev begin : ℕ
       begin = c % 2 ^ l
@@ -127,7 +128,7 @@ module _ (o : Order) (i : ℕ) where
         event = record {
           state-fits = state;
           some-step = first .some-step;
-          at-most-N = inside;
+          at-most-steps = inside;
           input-fits = begin-fits;
           meets = in-firstMeets (o .v) i l i begin begin-meets;
           weighs = refl;
@@ -149,8 +150,8 @@ module _ (o : Order) (i : ℕ) where
 
     -- the chain of a loop, given those of shorter ones
     chain-step : (k c : ℕ)
-        → ((k′ c′ : ℕ) → k′ < k → k′ ≤ o .N → Loop (o .v) i k′ c′ → walkWeight (o .generators) (o .v) k′ i c′ < o .d → ChainFor k′ c′)
-        → k ≤ o .N → Loop (o .v) i k c → walkWeight (o .generators) (o .v) k i c < o .d → ChainFor k c
+        → ((k′ c′ : ℕ) → k′ < k → k′ ≤ stepsOf o → Loop (o .v) i k′ c′ → walkWeight (o .generators) (o .v) k′ i c′ < o .d → ChainFor k′ c′)
+        → k ≤ stepsOf o → Loop (o .v) i k c → walkWeight (o .generators) (o .v) k i c < o .d → ChainFor k c
     unfolding steps inputNumber
     chain-step zero c shorter g loop light =
         record { events = []; of-state = λ e m. absurd (List·Memᴰ·not-nil m); steps-are = refl; number-is = sym (lt-one (loop .fits)) }
@@ -162,14 +163,14 @@ module _ (o : Order) (i : ℕ) where
         let e : suc k ≡ l + (suc k - l) = omega (arith, found .1) in
         let loop′ = subst (λ (x : ℕ). Loop (o .v) i x c) e loop in
         let light′ = subst (λ (x : ℕ). walkWeight (o .generators) (o .v) x i c < o .d) e light in
-        let inside : l ≤ o .N = omega (arith, found .1) in
+        let inside : l ≤ stepsOf o = omega (arith, found .1) in
         let rest = loop-rest (o .v) i l (suc k - l) c loop′ (first .arrives) in
         let chain = shorter (suc k - l) (c / 2 ^ l) (omega arith) (omega arith) rest (rest-light l (suc k - l) c first inside light′) in
         subst (λ (x : ℕ). ChainFor x c) (sym e) (before l (suc k - l) c first inside light′ chain)
 
-    chain-by : (fuel k c : ℕ) → k ≤ fuel → k ≤ o .N → Loop (o .v) i k c → walkWeight (o .generators) (o .v) k i c < o .d → ChainFor k c
+    chain-by : (fuel k c : ℕ) → k ≤ fuel → k ≤ stepsOf o → Loop (o .v) i k c → walkWeight (o .generators) (o .v) k i c < o .d → ChainFor k c
     chain-by zero k c h = chain-step k c (λ k′ c′ g. absurd (omega arith))
     chain-by (suc fuel) k c h = chain-step k c (λ k′ c′ g. chain-by fuel k′ c′ (omega arith))
 
-    pub loop-chain : (k c : ℕ) → k ≤ o .N → Loop (o .v) i k c → walkWeight (o .generators) (o .v) k i c < o .d → ChainFor k c
+    pub loop-chain : (k c : ℕ) → k ≤ stepsOf o → Loop (o .v) i k c → walkWeight (o .generators) (o .v) k i c < o .d → ChainFor k c
     loop-chain k c = chain-by k k c (omega arith)

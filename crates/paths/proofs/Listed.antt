@@ -22,11 +22,11 @@ use Rattle.paths.specs.Paths.{words, wordsOfWeight, weights, paths, plai
 pub record IsPath (o : Order) (u : ℕ) : Type 0 where
   pub nonzero : 1 ≤ u
   pub fits : u < 2 ^ o .N
-  pub below : weight (o .N) (o .generators) u < o .d
+  pub below : weight o u < o .d
 
 -- by weight, then number
 abbrev pub Before : Order → ℕ → ℕ → Type 0
-Before o = ByThen (weight (o .N) (o .generators)) (By (λ u. u))
+Before o = ByThen (weight o) (By (λ u. u))
 
 -- ---- the members
 
@@ -40,19 +40,19 @@ unfolding words
 words-sorted N = upFrom-sorted 1 (2 ^ N - 1)
 
 module _ (o : Order) where
-  pub of-wordsOfWeight : (w u : ℕ) → List·Memᴰ u (wordsOfWeight o w) → List·Memᴰ u (words (o .N)) × (weight (o .N) (o .generators) u ≡ w)
+  pub of-wordsOfWeight : (w u : ℕ) → List·Memᴰ u (wordsOfWeight o w) → List·Memᴰ u (words (o .N)) × (weight o u ≡ w)
   unfolding wordsOfWeight
   of-wordsOfWeight w u m =
-      let h = of-filter (λ x. eqb (weight (o .N) (o .generators) x) w) (words (o .N)) m in
-      (h .0, eqb→eq (weight (o .N) (o .generators) u) w (h .1))
+      let h = of-filter (λ x. eqb (weight o x) w) (words (o .N)) m in
+      (h .0, eqb→eq (weight o u) w (h .1))
 
-  pub in-wordsOfWeight : (w u : ℕ) → List·Memᴰ u (words (o .N)) → weight (o .N) (o .generators) u ≡ w → List·Memᴰ u (wordsOfWeight o w)
+  pub in-wordsOfWeight : (w u : ℕ) → List·Memᴰ u (words (o .N)) → weight o u ≡ w → List·Memᴰ u (wordsOfWeight o w)
   unfolding wordsOfWeight
   in-wordsOfWeight w u m e =
-      let t = subst (λ x. T (eqb (weight (o .N) (o .generators) u) x)) e (eqb-refl (weight (o .N) (o .generators) u)) in
-      in-filter (λ x. eqb (weight (o .N) (o .generators) x) w) (words (o .N)) m t
+      let t = subst (λ x. T (eqb (weight o u) x)) e (eqb-refl (weight o u)) in
+      in-filter (λ x. eqb (weight o x) w) (words (o .N)) m t
 
-  pub mem-wordsOfWeight : (w u : ℕ) → List·Memᴰ u (wordsOfWeight o w) ↔ (List·Memᴰ u (words (o .N)) × (weight (o .N) (o .generators) u ≡ w))
+  pub mem-wordsOfWeight : (w u : ℕ) → List·Memᴰ u (wordsOfWeight o w) ↔ (List·Memᴰ u (words (o .N)) × (weight o u ≡ w))
   mem-wordsOfWeight w u = (of-wordsOfWeight w u, λ h. in-wordsOfWeight w u (h .0) (h .1))
 
   pub mem-weights : (w : ℕ) → List·Memᴰ w (weights o) ↔ (w < o .d)
@@ -71,7 +71,7 @@ module _ (o : Order) where
   pub in-paths : (u : ℕ) → IsPath o u → List·Memᴰ u (paths o)
   unfolding paths
   in-paths u h =
-      let w : ℕ = weight (o .N) (o .generators) u in
+      let w : ℕ = weight o u in
       let word : List·Memᴰ u (words (o .N)) = mem-words (o .N) u .1 (h .nonzero, h .fits) in
       in-flatMap (wordsOfWeight o) (weights o) (mem-weights w .1 (h .below)) (in-wordsOfWeight w u word refl)
 
@@ -82,16 +82,16 @@ module _ (o : Order) where
 
   pub wordsOfWeight-sorted : (w : ℕ) → Sorted _<_ (wordsOfWeight o w)
   unfolding wordsOfWeight
-  wordsOfWeight-sorted w = filter-sorted _<_ (λ u. eqb (weight (o .N) (o .generators) u) w) (words (o .N)) (words-sorted (o .N))
+  wordsOfWeight-sorted w = filter-sorted _<_ (λ u. eqb (weight o u) w) (words (o .N)) (words-sorted (o .N))
 
   pub paths-sorted : Sorted (Before o) (paths o)
   unfolding paths weights
   paths-sorted =
-      blocks-sorted (weight (o .N) (o .generators)) (By (λ u. u)) (wordsOfWeight o) (λ w u m. of-wordsOfWeight w u m .1) wordsOfWeight-sorted (weights o)
+      blocks-sorted (weight o) (By (λ u. u)) (wordsOfWeight o) (λ w u m. of-wordsOfWeight w u m .1) wordsOfWeight-sorted (weights o)
       (upFrom-sorted 0 (o .d))
 
   pub before-asymmetric : (u u′ : ℕ) → Before o u u′ → Before o u′ u → ⊥
-  before-asymmetric = byThen-asymmetric (weight (o .N) (o .generators)) (By (λ u. u)) (by-asymmetric (λ u. u))
+  before-asymmetric = byThen-asymmetric (weight o) (By (λ u. u)) (by-asymmetric (λ u. u))
 
   -- a list in that order with these members is the list of paths
   pub paths-unique : (l : List ℕ) → Sorted (Before o) l → ((u : ℕ) → List·Memᴰ u l ↔ IsPath o u) → l ≡ paths o
@@ -105,7 +105,7 @@ module _ (o : Order) where
 
   pub length-plainCounts : length (plainCounts o) ≡ o .d
   unfolding plainCounts weights
-  length-plainCounts = length-map-upFrom (λ w. count (λ u. eqb (weight (o .N) (o .generators) u) w) (words (o .N))) 0 (o .d)
+  length-plainCounts = length-map-upFrom (λ w. count (λ u. eqb (weight o u) w) (words (o .N))) 0 (o .d)
 
   pub plain-count-at : (w : ℕ) → w < o .d → getD (plainCounts o) w 0 ≡ length (wordsOfWeight o w)
   unfolding weights

@@ -1,5 +1,5 @@
--- The tail-biting paths below the threshold (document 01: paths), as one ordered list, and how many there are of each weight (the plain counts).
--- By cyclic products alone: no state, walk or event enters here.
+-- The paths of a link below the threshold (document 01: paths), as one ordered list, and how many there are of each weight (the plain counts).
+-- By the weight of words alone, which is by products: no state, walk or event enters here.
 -- Assumes nothing.
 use Prim.Native.Nat.{ℕ, _-_, _/_, _^_}
 use mathlib.Core.List.{List, map, flatMap}
@@ -15,7 +15,7 @@ words N = upFrom 1 (2 ^ N - 1)
 
 -- the nonzero words of weight w, by number
 unfoldable pub wordsOfWeight : Order → ℕ → List ℕ
-wordsOfWeight o w = filter (λ u. eqb (weight (o .N) (o .generators) u) w) (words (o .N))
+wordsOfWeight o w = filter (λ u. eqb (weight o u) w) (words (o .N))
 
 -- the weights below the threshold
 unfoldable pub weights : Order → List ℕ
@@ -27,7 +27,7 @@ paths o = flatMap (wordsOfWeight o) (weights o)
 
 -- how many there are of each weight below d
 unfoldable pub plainCounts : Order → List ℕ
-plainCounts o = map (λ w. count (λ u. eqb (weight (o .N) (o .generators) u) w) (words (o .N))) (weights o)
+plainCounts o = map (λ w. count (λ u. eqb (weight o u) w) (words (o .N))) (weights o)
 
 -- ---- the lent tables
 

@@ -1,12 +1,16 @@
--- Laws of the product of polynomials: its equation a digit at a time, and that it is a commutative product that distributes over the sum.
+-- Laws of the product of polynomials: its equation a digit at a time, that it is a commutative product that distributes over the sum, and how many
+-- coefficients it has.
 -- Assumes nothing.
-use mathlib.Core.Path.{_≡_, sym, ap, ap₂, _∙_}
-use Prim.Native.Nat.{ℕ, _+_, _*_, _/_, _%_, _<_}
-use native.Mathlib.Nat.{zero-mul, mul-zero, one-mul, mul-one, mul-left-comm, add-zero}
+use mathlib.Core.Path.{_≡_, sym, ap, ap₂, _∙_, subst}
+use Prim.Native.Nat.{ℕ, zero, suc, _+_, _*_, _/_, _%_, _^_, _≤_, _<_}
+use native.Mathlib.Nat.{zero-mul, mul-zero, one-mul, mul-one, mul-left-comm, add-zero, add-suc, div-eq-of-lt, pow-succ'}
+use native.Mathlib.Omega.{arith}
 use lib.Arith.{bin-ind}
 use lib.Dec.{lit<}
+use lib.Pow.{pow-pos, pow-mono}
 use Rattle.poly.specs.Poly.{_⊕_, _⊗_}
-use Rattle.poly.proofs.Sum.{mod2-lt, for-bits, half-push, mod2-push, ⊕-zero-l, ⊕-zero-r, ⊕-interchange, double-⊕, halves-⊕, digit-times-⊕, differ-times}
+use Rattle.poly.proofs.Sum.{mod2-lt, for-bits, half-push, mod2-push, ⊕-zero-l, ⊕-zero-r, ⊕-interchange, double-⊕, halves-⊕, digit-times-⊕, differ-times, digit-times-lt, ⊕-lt}
+use Rattle.poly.proofs.Bits.{half-lt}
 use Rattle.poly.proofs.Horner.{horner-step, horner-zero, horner-⊕, LinearStep}
 
 -- the product's step, by a
@@ -95,3 +99,21 @@ pub ⊗-comm : (a b : ℕ) → a ⊗ b ≡ b ⊗ a
 
 pub ⊗-one : (a : ℕ) → a ⊗ 1 ≡ a
 ⊗-one a = ⊗-comm a 1 ∙ one-⊗ a
+
+-- ---- how many coefficients it has
+
+pub ⊗-lt : (i j a b : ℕ) → a < 2 ^ i → b < 2 ^ suc j → a ⊗ b < 2 ^ (i + j)
+⊗-lt i zero a b h g =
+    subst (λ (x : ℕ). x < 2 ^ (i + 0)) (sym (⊗-step a b))
+    (⊕-lt (i + 0) (2 * (a ⊗ (b / 2))) (b % 2 * a) (subst (λ (x : ℕ). 2 * x < 2 ^ (i + 0)) (sym (none b g)) (pow-pos (i + 0)))
+    (digit-times-lt (b % 2) a (2 ^ (i + 0)) (mod2-lt b) (subst (λ (x : ℕ). a < 2 ^ x) (sym (add-zero i)) h)))
+  where
+    none : (x : ℕ) → x < 2 → a ⊗ (x / 2) ≡ 0
+    none x l = ap (λ (y : ℕ). a ⊗ y) (div-eq-of-lt l) ∙ ⊗-zero a
+⊗-lt i (suc j) a b h g =
+    let rest = ⊗-lt i j a (b / 2) h (half-lt (suc j) b g) in
+    let twice = pow-succ' 2 (i + j) in
+    let more = ap (λ (x : ℕ). 2 ^ x) (add-suc i j) in
+    let wide : 2 ^ i ≤ 2 ^ (i + suc j) = pow-mono (omega arith) in
+    subst (λ (x : ℕ). x < 2 ^ (i + suc j)) (sym (⊗-step a b))
+    (⊕-lt (i + suc j) (2 * (a ⊗ (b / 2))) (b % 2 * a) (omega arith) (digit-times-lt (b % 2) a (2 ^ (i + suc j)) (mod2-lt b) (omega arith)))

@@ -1,4 +1,4 @@
--- An order that was read has 2 to 4 generators and a threshold from 1 to 64, and the struct tells it whole. So what is printed for the struct is
+-- An order that was read has a known kind of link, 2 to 4 generators and a threshold from 1 to 64, and the struct tells it whole. So what is printed for the struct is
 -- what is printed for the record.
 -- Assumes nothing.
 use Prim.Native.Nat.{ℕ, zero, suc}
@@ -42,8 +42,15 @@ module _ (bytes : List ℕ) where
   small : asked ≡ 0 → Small (recordOf (readFields bytes))
   unfolding recordOf
   small e =
-      let acc = passed e in
-      record { two-generators = acc .order .code .some-generators; four-generators = acc .order .code .few-generators; some-weight = acc .order .threshold .some-weight; some-counts = acc .order .threshold .at-most-64 }
+      let acc = passed e .order in
+      record {
+        some-version = acc .code .some-version;
+        known-version = acc .code .known-version;
+        two-generators = acc .code .some-generators;
+        four-generators = acc .code .few-generators;
+        some-weight = acc .threshold .some-weight;
+        some-counts = acc .threshold .at-most-64;
+      }
 
   known : Known (readingOf (read bytes))
   unfolding read unless readingOf Known

@@ -6,7 +6,8 @@ use lib.Count.{onesIn, ones}
 use Rattle.lists.specs.Lists.{upFrom, filter, count, all, any, padded, cleared}
 use Rattle.poly.specs.Poly.{bit, _⊕_, digitsThrough, horner, _⊗_, register, remainder}
 use Rattle.gcd.specs.SharedFactor.{divides, total, shareFactor}
-use Rattle.code.specs.Weight.{output, weight}
+use Rattle.code.specs.Links.{terminated, stepsOf, output, eventStates}
+use Rattle.code.specs.Weight.{weightOf, weight}
 use Rattle.code.specs.Trellis.{next, tapped, stepOutput, stepWeight, walkWeight, firstMeets}
 use Rattle.order.specs.Questions.{firstNo, from-to, inRange, hasBit, workSize, shapeQuestions, generatorQuestions}
 use Rattle.order.specs.Order.{be16, readGenerators, readFields, lengthRight, versionRight, countRight, recordQuestions, numberQuestions, orderQuestions, read}
@@ -33,7 +34,7 @@ document-printed : printed (0 ∷ 10 ∷ 1 ∷ 2 ∷ 1 ∷ 4 ∷ 2 ∷ 6 ∷ 0 �
     ∷ 65 ∷ 32 ∷ 52 ∷ 32 ∷ 53 ∷ 32 ∷ 49 ∷ 10
     ∷ 65 ∷ 32 ∷ 53 ∷ 32 ∷ 52 ∷ 32 ∷ 48 ∷ 10
     ∷ 67 ∷ 82 ∷ 67 ∷ 32 ∷ 48 ∷ 120 ∷ 53 ∷ 10 ∷ []
-unfolding flatMap onesIn ones upFrom filter count all any padded cleared bit _⊕_ digitsThrough horner _⊗_ register remainder output weight next tapped stepOutput stepWeight walkWeight firstMeets firstNo from-to inRange hasBit workSize divides total shareFactor shapeQuestions numberQuestions generatorQuestions orderQuestions unless unlessRefused isListed eventsOfLength eventsOfState events entry noEvent eventTable words wordsOfWeight weights paths plainCounts halves pathTable pathRoom passes undetectedCount undetectedCounts candidates fewer betters best choiceOf choice unlessTooMany clearedSearch filledSearch searchQuestions chosen searchCall digit digits numeral decimal octal hexadecimal line wORDER wEVENTS wPATHS wA wCRC orderLine countLine rowText be16 readGenerators readFields lengthRight versionRight countRight recordQuestions read lent printedRow printedSearch printedReading printed
+unfolding flatMap onesIn ones upFrom filter count all any padded cleared bit _⊕_ digitsThrough horner _⊗_ register remainder terminated stepsOf output eventStates weightOf weight next tapped stepOutput stepWeight walkWeight firstMeets firstNo from-to inRange hasBit workSize divides total shareFactor shapeQuestions numberQuestions generatorQuestions orderQuestions unless unlessRefused isListed eventsOfLength eventsOfState events entry noEvent eventTable words wordsOfWeight weights paths plainCounts halves pathTable pathRoom passes undetectedCount undetectedCounts candidates fewer betters best choiceOf choice unlessTooMany clearedSearch filledSearch searchQuestions chosen searchCall digit digits numeral decimal octal hexadecimal line wORDER wEVENTS wPATHS wA wCRC orderLine countLine rowText be16 readGenerators readFields lengthRight versionRight countRight recordQuestions read lent printedRow printedSearch printedReading printed
 document-printed = refl
 
 -- NO 1

@@ -63,7 +63,8 @@ unfolding rowCall rowQuestions textSize orderIn
 row-shown o events paths polynomial plain undetected before after w end p e s =
     let small = p .small in
     shown _ (rowText (orderIn o) events paths polynomial plain undetected) before after w end (
-    firstNo-yes _ _ (ap (from-to 2 4) (length-orderIn o) ∙ within 2 4 (o .n) (small .two-generators) (small .four-generators))
+    firstNo-yes _ _ (within 1 2 (o .version) (small .some-version) (small .known-version))
+    ∙ firstNo-yes _ _ (ap (from-to 2 4) (length-orderIn o) ∙ within 2 4 (o .n) (small .two-generators) (small .four-generators))
     ∙ firstNo-yes _ _ (within 1 64 (o .d) (small .some-weight) (small .some-counts))
     ∙ firstNo-yes _ _ (le-leb (o .d) (length plain) (subst (λ (k : ℕ). o .d ≤ k) (sym (p .plain-counts)) (small .some-counts)))
     ∙ firstNo-yes _ _ (le-leb (o .d) (length undetected) (subst (λ (k : ℕ). o .d ≤ k) (sym (p .undetected-counts)) (small .some-counts)))

@@ -1,11 +1,12 @@
 -- A number with another set above it, a + x * 2^p where a < 2^p, in two halves of 64 bits as the code computes it: no sum of halves overflows.
 -- Assumes nothing.
 use Prim.Native.Nat.{ℕ, _+_, _-_, _*_, _/_, _%_, _^_, _≤_, _<_}
-use native.Mathlib.Nat.{zero-add, mul-one, mul-assoc, mod-eq-of-lt, lt-of-mul-lt-mul-right, mul-le-mul-left, sub-add-cancel}
+use native.Mathlib.Nat.{zero-add, add-zero, zero-mul, mul-one, one-mul, mul-assoc, mod-eq-of-lt, lt-of-mul-lt-mul-right, mul-le-mul-left, sub-add-cancel}
+use native.Mathlib.Decide.{decLt}
 use native.Mathlib.Omega.{arith}
 use mathlib.Core.Path.{_≡_, sym, ap, ap₂, _∙_, subst}
 use lib.Arith.{lt-one}
-use lib.Pow.{pow-pos, pow-add, pow-lt}
+use lib.Pow.{pow-pos, pow-add, pow-lt, pow-mono}
 use Rattle.poly.proofs.Shifts.{beside-fits, up-halves}
 
 -- ---- place 0
@@ -66,13 +67,13 @@ module _ (h l g m p : ℕ) (many : 64 ≤ p) (s : p < 128) (fit : (h * 2 ^ 64 + 
   whole : l * 2 ^ (p - 64) % 2 ^ 64 ≡ l * 2 ^ (p - 64)
   whole = mod-eq-of-lt (subst (λ (x : ℕ). x * 2 ^ (p - 64) < 2 ^ 64) only-low shifted)
 
-  pub high-fits : g * 2 ^ 64 + m < 2 ^ p → g + l * 2 ^ (p - 64) % 2 ^ 64 < 2 ^ 64
+  high-fits : g * 2 ^ 64 + m < 2 ^ p → g + l * 2 ^ (p - 64) % 2 ^ 64 < 2 ^ 64
   high-fits small = beside-fits g l (p - 64) (omega arith) (high-lt g m (2 ^ p) (2 ^ (p - 64)) small high-power)
     where
       high-lt : (x y z w : ℕ) → x * 2 ^ 64 + y < z → z ≡ w * 2 ^ 64 → x < w
       high-lt x y z w a b = omega arith
 
-  pub joined-high : (g + l * 2 ^ (p - 64) % 2 ^ 64) * 2 ^ 64 + m ≡ g * 2 ^ 64 + m + (h * 2 ^ 64 + l) * 2 ^ p
+  joined-high : (g + l * 2 ^ (p - 64) % 2 ^ 64) * 2 ^ 64 + m ≡ g * 2 ^ 64 + m + (h * 2 ^ 64 + l) * 2 ^ p
   joined-high =
       regroup g (l * 2 ^ (p - 64) % 2 ^ 64) m
       ∙ ap (λ (x : ℕ). g * 2 ^ 64 + m + x)
@@ -82,3 +83,42 @@ module _ (h l g m p : ℕ) (many : 64 ≤ p) (s : p < 128) (fit : (h * 2 ^ 64 + 
     where
       regroup : (x y z : ℕ) → (x + y) * 2 ^ 64 + z ≡ x * 2 ^ 64 + z + y * 2 ^ 64
       regroup x y z = omega arith
+
+-- ---- places from 128 on: only 0 is set there
+
+module _ (h l g m p : ℕ) (far : 128 ≤ p) (fit : (h * 2 ^ 64 + l) * 2 ^ p < 2 ^ 128) where
+  nothing : h * 2 ^ 64 + l ≡ 0
+  nothing =
+      let most : 2 ^ 128 ≤ 2 ^ p = pow-mono far in
+      lt-one (lt-of-mul-lt-mul-right (2 ^ p) (subst (λ (x : ℕ). (h * 2 ^ 64 + l) * 2 ^ p < x) (sym (one-mul (2 ^ p))) (below ((h * 2 ^ 64 + l) * 2 ^ p) (2 ^ 128) (2 ^ p) fit most)))
+    where
+      below : (x y z : ℕ) → x < y → y ≤ z → x < z
+      below x y z a b = omega arith
+
+  -- however it is shifted
+  nothing-shifted : (k : ℕ) → l * 2 ^ k % 2 ^ 64 ≡ 0
+  nothing-shifted k = let e : l ≡ 0 = omega (arith, nothing) in ap (λ (x : ℕ). x * 2 ^ k % 2 ^ 64) e ∙ ap (λ (x : ℕ). x % 2 ^ 64) (zero-mul (2 ^ k))
+
+  joined-none : (k : ℕ) → (g + l * 2 ^ k % 2 ^ 64) * 2 ^ 64 + m ≡ g * 2 ^ 64 + m + (h * 2 ^ 64 + l) * 2 ^ p
+  joined-none k =
+      ap (λ (x : ℕ). (g + x) * 2 ^ 64 + m) (nothing-shifted k) ∙ ap (λ (x : ℕ). x * 2 ^ 64 + m) (add-zero g)
+      ∙ sym (ap (λ (x : ℕ). g * 2 ^ 64 + m + x * 2 ^ p) nothing ∙ ap (λ (x : ℕ). g * 2 ^ 64 + m + x) (zero-mul (2 ^ p)) ∙ add-zero (g * 2 ^ 64 + m))
+
+-- ---- places from 64 on, shifted by the place without its 64s
+
+module _ (h l g m p : ℕ) (many : 64 ≤ p) (fit : (h * 2 ^ 64 + l) * 2 ^ p < 2 ^ 128) where
+  pub above-fits : g < 2 ^ 64 → g * 2 ^ 64 + m < 2 ^ p → g + l * 2 ^ (p % 64) % 2 ^ 64 < 2 ^ 64
+  above-fits wide small = elim (decLt p 128) [
+    | yes s ↦
+        let k : p - 64 ≡ p % 64 = omega arith in
+        subst (λ (x : ℕ). g + l * 2 ^ x % 2 ^ 64 < 2 ^ 64) k (high-fits h l g m p many s fit small)
+    | no n ↦ let z = nothing-shifted h l g m p (omega arith) fit (p % 64) in omega arith
+  ]
+
+  pub joined-above : (g + l * 2 ^ (p % 64) % 2 ^ 64) * 2 ^ 64 + m ≡ g * 2 ^ 64 + m + (h * 2 ^ 64 + l) * 2 ^ p
+  joined-above = elim (decLt p 128) [
+    | yes s ↦
+        let k : p - 64 ≡ p % 64 = omega arith in
+        sym (ap (λ (x : ℕ). (g + l * 2 ^ x % 2 ^ 64) * 2 ^ 64 + m) k) ∙ joined-high h l g m p many s fit
+    | no n ↦ joined-none h l g m p (omega arith) fit (p % 64)
+  ]

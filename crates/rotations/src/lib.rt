@@ -46,9 +46,10 @@ pub fn turn_back(w: Word, bits: u64) -> Word
     }
 }
 
-// The word begun 0, 1, .., first - 1 steps later, without the zero word (the only one below 2^0), each appended.
+// The word begun 0, 1, .., first - 1 steps later, without the zero word (the only one below 2^0), each appended. A word that is emitted once is not
+// turned, so it may have more than 128 bits.
 pub fn push_turns(table: &mut [u64], at: usize, bits: u64, first: u64, w: Word) -> usize
-    requires { ⌜ ToPushTurns (length (now table)) at bits (number w) ⌝ }
+    requires { ⌜ ToPushTurns (length (now table)) at bits first (number w) ⌝ }
     ensures { λ r. ⌜ (now (table .exit), r) ≡ puts (turns bits first (number w)) (now (table .entry), at) ⌝ }
 {
     if is_below(w, 0) {
@@ -59,13 +60,15 @@ pub fn push_turns(table: &mut [u64], at: usize, bits: u64, first: u64, w: Word) 
     let mut r = 0;
     while r < first {
         next = push(table, next, u);
-        u = turn_back(u, bits);
         r += 1;
+        if r < first {
+            u = turn_back(u, bits);
+        }
     }
     next
 }
 
-// The input of an event, `place` bits up, joined to the inputs before it.
+// The input of an event, `place` bits up, joined to the inputs before it. From 128 bits up on the input is 0, however it is shifted.
 pub fn join_input(before: Word, input: Word, place: u64) -> Word
     requires { ⌜ ToJoinInput (number before) (number input) place ⌝ }
     ensures { λ r. ⌜ number r ≡ number before + number input * 2 ^ place ⌝ }
@@ -81,6 +84,6 @@ pub fn join_input(before: Word, input: Word, place: u64) -> Word
     }
     Word {
         low: before.low,
-        high: before.high + (input.low << (place - 64)),
+        high: before.high + (input.low << (place % 64)),
     }
 }

@@ -7,7 +7,8 @@ use Rattle.lists.specs.Lists.{upFrom, filter, count, all, any, padded, cleared}
 use Rattle.poly.specs.Poly.{bit, _⊕_, digitsThrough, horner, _⊗_, register, remainder}
 use Rattle.gcd.specs.SharedFactor.{divides, total, shareFactor}
 use Rattle.crc.specs.Check.{append, polynomialQuestions, wordQuestions, appendCall}
-use Rattle.code.specs.Weight.{output, weight}
+use Rattle.code.specs.Links.{terminated, stepsOf, output, eventStates}
+use Rattle.code.specs.Weight.{weightOf, weight}
 use Rattle.code.specs.Trellis.{next, tapped, stepOutput, stepWeight, walkWeight, firstMeets}
 use Rattle.order.specs.Questions.{firstNo, from-to, inRange, hasBit, workSize, shapeQuestions, generatorQuestions}
 use Rattle.order.specs.Order.{numberQuestions, orderQuestions}
@@ -22,5 +23,5 @@ use Rattle.search.specs.Calls.{clearedSearch, filledSearch, searchQuestions, ch
 use Rattle.rows.specs.Rows.{lent, figuresOf, told, marked, rows}
 
 pub rows-hold : map (λ line. told (line .0)) rows ≡ map (λ line. line .1) rows
-unfolding flatMap onesIn ones upFrom filter count all any padded cleared bit _⊕_ digitsThrough horner _⊗_ register remainder append polynomialQuestions wordQuestions appendCall output weight next tapped stepOutput stepWeight walkWeight firstMeets firstNo from-to inRange hasBit workSize divides total shareFactor shapeQuestions numberQuestions generatorQuestions orderQuestions unless unlessRefused isListed eventsOfLength eventsOfState events entry noEvent eventTable words wordsOfWeight weights paths plainCounts halves pathTable pathRoom passes undetectedCount undetectedCounts candidates fewer betters best choiceOf choice unlessTooMany clearedSearch filledSearch searchQuestions chosen searchCall lent figuresOf told marked rows
+unfolding flatMap onesIn ones upFrom filter count all any padded cleared bit _⊕_ digitsThrough horner _⊗_ register remainder append polynomialQuestions wordQuestions appendCall terminated stepsOf output eventStates weightOf weight next tapped stepOutput stepWeight walkWeight firstMeets firstNo from-to inRange hasBit workSize divides total shareFactor shapeQuestions numberQuestions generatorQuestions orderQuestions unless unlessRefused isListed eventsOfLength eventsOfState events entry noEvent eventTable words wordsOfWeight weights paths plainCounts halves pathTable pathRoom passes undetectedCount undetectedCounts candidates fewer betters best choiceOf choice unlessTooMany clearedSearch filledSearch searchQuestions chosen searchCall lent figuresOf told marked rows
 rows-hold = refl

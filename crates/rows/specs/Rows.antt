@@ -1,6 +1,7 @@
--- Document 01's rows marked ●, as document 02 (C-11) left them, as one table: what is asked, and every figure of the answer. `proofs/Hold.antt` has
+-- Document 01's rows marked ●, as document 02 (C-11, C-12) left them, as one table: what is asked, and every figure of the answer. `proofs/Hold.antt` has
 -- the one theorem, that each line's figures are what the definitions give. Where a document leaves a figure out, the line states it all the same.
--- Polynomials are in hexadecimal, the rest in decimal, as in the document. Code S has v = 1 and generators 1, 3.
+-- Polynomials are in hexadecimal, the rest in decimal, as in the document. Code S has v = 1 and generators 1, 3. Links are tail-biting where it is not
+-- said that they are terminated.
 -- Assumes nothing.
 use Prim.Native.Nat.{ℕ, _*_}
 use mathlib.Core.List.{List, [], _∷_}
@@ -21,7 +22,7 @@ pub data Ask : Type 0 where
   row : Order → Ask
   searched : Order → SearchTables → Ask
   question : Order → Ask
-  weigh : (N : ℕ) (generators : List ℕ) (word : ℕ) → Ask
+  weigh : Order → (word : ℕ) → Ask
   word : (N m polynomial message : ℕ) → Ask
 
 pub record Figures : Type 0 where
@@ -50,7 +51,7 @@ unfoldable pub told : Ask → Told
 told (row o) = figures (figuresOf o)
 told (searched o t) = answer-and-tables (searchCall o t)
 told (question o) = a-number (firstNo (orderQuestions T.Everything o))
-told (weigh N gs u) = a-number (weight N gs u)
+told (weigh o u) = a-number (weight o u)
 told (word N m p f) = an-answer (appendCall N m p f)
 
 -- ---- the table
@@ -63,14 +64,22 @@ Line = Ask × Told
 abbrev event : ℕ → ℕ → ℕ → ℕ → ErrorEvent
 event s l w c = record { state = s; length = l; weight = w; input = c }
 
-abbrev order : (v N m d : ℕ) → List ℕ → Order
-order v N m d gs = record { v = v; N = N; m = m; d = d; generators = gs }
+abbrev order : (version v N m d : ℕ) → List ℕ → Order
+order version v N m d gs = record { version = version; v = v; N = N; m = m; d = d; generators = gs }
 
-abbrev line : (v N m d : ℕ) → List ℕ → Answer Found → List ErrorEvent → List ℕ → List ℕ → List ℕ → Line
-line v N m d gs answer es us plain undetected = (
-  row (order v N m d gs),
+-- a code alone: m and d are not asked about
+abbrev code : (version v N : ℕ) → List ℕ → Order
+code version v N gs = order version v N 0 0 gs
+
+abbrev lineOf : Order → Answer Found → List ErrorEvent → List ℕ → List ℕ → List ℕ → Line
+lineOf o answer es us plain undetected = (
+  row o,
   figures (record { answer = answer; events = es; paths = us; plain = plain; undetected = undetected }),
 )
+
+-- of a tail-biting link
+abbrev line : (v N m d : ℕ) → List ℕ → Answer Found → List ErrorEvent → List ℕ → List ℕ → List ℕ → Line
+line v N m d gs = lineOf (order 1 v N m d gs)
 
 abbrev S : List ℕ
 S = 1 ∷ 3 ∷ []
@@ -113,19 +122,28 @@ rows =
     (event 0 1 0 0 ∷ event 0 2 3 1 ∷ event 0 3 4 3 ∷ event 0 4 5 7 ∷ event 1 1 1 1 ∷ [])
     (1 ∷ 2 ∷ 4 ∷ 8 ∷ 3 ∷ 6 ∷ 9 ∷ 12 ∷ 15 ∷ 7 ∷ 11 ∷ 13 ∷ 14 ∷ 5 ∷ 10 ∷ [])
     (0 ∷ 0 ∷ 0 ∷ 4 ∷ 5 ∷ 4 ∷ 2 ∷ []) (0 ∷ 0 ∷ 0 ∷ 0 ∷ 1 ∷ 0 ∷ 2 ∷ [])
-    ∷ (weigh 4 S 5, a-number 6)
-    ∷ (weigh 4 S 10, a-number 6)
+    ∷ (weigh (code 1 1 4 S) 5, a-number 6)
+    ∷ (weigh (code 1 1 4 S) 10, a-number 6)
     -- S, N=2, m=1, d=3: 0x3, undetected 0 0 1
     ∷ line 1 2 1 3 S (accepted (found 2 1 0x3))
     (event 0 1 0 0 ∷ event 1 1 1 1 ∷ [])
     (3 ∷ [])
     (0 ∷ 0 ∷ 1 ∷ []) (0 ∷ 0 ∷ 1 ∷ [])
     -- generators 3, 3, v=1, N=2, m=1, d=1: refusal 16, and nothing lent is changed (word 3 weighs 0)
-    ∷ (searched (order 1 2 1 1 (3 ∷ 3 ∷ [])) marked, answer-and-tables (refused 16, marked))
-    ∷ (weigh 2 (3 ∷ 3 ∷ []) 3, a-number 0)
+    ∷ (searched (order 1 1 2 1 1 (3 ∷ 3 ∷ [])) marked, answer-and-tables (refused 16, marked))
+    ∷ (weigh (code 1 1 2 (3 ∷ 3 ∷ [])) 3, a-number 0)
     -- 5, 3 with v=2: refusal 16; 13, 17 (octal) pass
-    ∷ (question (order 2 4 2 6 (0x5 ∷ 0x3 ∷ [])), a-number 16)
-    ∷ (question (order 3 70 6 18 (0xB ∷ 0xF ∷ [])), a-number 0)
+    ∷ (question (order 1 2 4 2 6 (0x5 ∷ 0x3 ∷ [])), a-number 16)
+    ∷ (question (order 1 3 70 6 18 (0xB ∷ 0xF ∷ [])), a-number 0)
+    -- terminated, S, N=3, m=2, d=6: 4 events, 6 paths, 0x5; word 7 weighs 5, and 3 on a tail-biting link
+    ∷ lineOf (order 2 1 3 2 6 S) (accepted (found 4 6 0x5))
+    (event 0 1 0 0 ∷ event 0 2 3 1 ∷ event 0 3 4 3 ∷ event 0 4 5 7 ∷ [])
+    (1 ∷ 2 ∷ 4 ∷ 3 ∷ 6 ∷ 7 ∷ [])
+    (0 ∷ 0 ∷ 0 ∷ 3 ∷ 2 ∷ 1 ∷ []) (0 ∷ 0 ∷ 0 ∷ 0 ∷ 0 ∷ 0 ∷ [])
+    ∷ (weigh (code 2 1 3 S) 7, a-number 5)
+    ∷ (weigh (code 1 1 3 S) 7, a-number 3)
+    -- version 3: refusal 2, before any question about the generators, and nothing lent is changed
+    ∷ (searched (order 3 1 2 1 1 []) marked, answer-and-tables (refused 2, marked))
     -- m=2, N=4: message 1 under 0x7 gives word 7; message 3 under 0x5 gives word 15
     ∷ (word 4 2 0x7 1, an-answer (accepted 7))
     ∷ (word 4 2 0x5 3, an-answer (accepted 15))

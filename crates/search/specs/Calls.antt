@@ -1,6 +1,6 @@
 -- What the search for the best check polynomial, and the counting for one polynomial, answer and leave, for every order and whatever tables are lent.
--- Their questions are 3 to 9, 16 and 10, for one polynomial also 11, then 13 and 14, for the search also 15. The counts are those of
--- `undetected` and the choice that of `choice`: from division and cyclic products over words alone.
+-- Their questions are 2 to 9, 16 and 10, for one polynomial also 11, then 13 and 14, for the search also 15. The counts are those of
+-- `undetected` and the choice that of `choice`: from division and the weight of words alone.
 -- Assumes nothing.
 use Prim.Native.Nat.{ℕ}
 use mathlib.Core.List.{List, [], _∷_, _++_}

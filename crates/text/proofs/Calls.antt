@@ -41,10 +41,11 @@ refusal-room buffer h = sym (firstNo-yes _ [] (le-leb 4096 (length buffer) h) �
 
 -- ---- a row's questions
 
-pub row-accepted : (n d plain undetected size r : ℕ) → r ≡ firstNo (rowQuestions n d plain undetected size) → r ≡ 0 → RowAccepted n d plain undetected size
+pub row-accepted : (version n d plain undetected size r : ℕ) → r ≡ firstNo (rowQuestions version n d plain undetected size) → r ≡ 0 → RowAccepted n d plain undetected size
 unfolding rowQuestions textSize
-row-accepted n d plain undetected size r e z =
-    let three = first-yes _ _ tt (sym e ∙ z) in
+row-accepted version n d plain undetected size r e z =
+    let two = first-yes _ _ tt (sym e ∙ z) in
+    let three = first-yes _ _ tt (two .1) in
     let seven = first-yes _ _ tt (three .1) in
     let first = room-told d plain _ (seven .1) in
     let second = room-told d undetected _ (first .1) in
@@ -56,5 +57,6 @@ row-accepted n d plain undetected size r e z =
     }
 
 -- the questions of an order's struct are those of its order
-pub row-asked : (o : OrderRecord) (plain undetected size r : ℕ) → r ≡ firstNo (rowQuestions (o .n) (o .d) plain undetected size) → r ≡ firstNo (rowQuestions (length (orderIn o .generators)) (o .d) plain undetected size)
-row-asked o plain undetected size r e = e ∙ ap (λ (n : ℕ). firstNo (rowQuestions n (o .d) plain undetected size)) (sym (length-orderIn o))
+pub row-asked : (o : OrderRecord) (plain undetected size r : ℕ) → r ≡ firstNo (rowQuestions (o .version) (o .n) (o .d) plain undetected size)
+    → r ≡ firstNo (rowQuestions (o .version) (length (orderIn o .generators)) (o .d) plain undetected size)
+row-asked o plain undetected size r e = e ∙ ap (λ (n : ℕ). firstNo (rowQuestions (o .version) n (o .d) plain undetected size)) (sym (length-orderIn o))

@@ -1,10 +1,10 @@
--- What the calls that make text answer and leave, for every input. Their questions are 3, 7 and 10 of document 01, as far as they take the values.
+-- What the calls that make text answer and leave, for every input. Their questions are 2, 3, 7 and 10 of document 01, as far as they take the values.
 -- Assumes nothing.
 use Prim.Native.Nat.{ℕ}
 use mathlib.Core.List.{List, [], _∷_}
 use lib.ListN.{length}
 use Rattle.lists.specs.Lists.{padded}
-use Rattle.order.specs.Questions.{Question, firstNo, generatorCount, threshold, room}
+use Rattle.order.specs.Questions.{Question, firstNo, linkKind, generatorCount, threshold, room}
 use Rattle.order.specs.Order.{Order}
 use Rattle.order.specs.Answer.{Answer, accepted, refused, unlessRefused}
 use Rattle.text.specs.Text.{rowText, refusalText}
@@ -24,14 +24,14 @@ writtenAs (W.Refused k) = refused k
 unfoldable pub laidOut : List ℕ → List ℕ → Answer ℕ × List ℕ
 laidOut text buffer = (accepted (length text), padded (length buffer) 0 text)
 
--- Of an order only n and d are asked about: a row is printed as it is told, for an order that a call has accepted before. This is the one call that
+-- Of an order only the kind of link, n and d are asked about: a row is printed as it is told, for an order that a call has accepted before. This is the one call that
 -- does not ask all questions about the values that it takes.
-unfoldable pub rowQuestions : (n d plain undetected size : ℕ) → List Question
-rowQuestions n d plain undetected size = generatorCount n ∷ threshold d ∷ room d plain ∷ room d undetected ∷ room textSize size ∷ []
+unfoldable pub rowQuestions : (version n d plain undetected size : ℕ) → List Question
+rowQuestions version n d plain undetected size = linkKind version ∷ generatorCount n ∷ threshold d ∷ room d plain ∷ room d undetected ∷ room textSize size ∷ []
 
 unfoldable pub rowCall : Order → (events paths polynomial : ℕ) → (plain undetected : List ℕ) → List ℕ → Answer ℕ × List ℕ
 rowCall o events paths polynomial plain undetected buffer =
-    unlessRefused (firstNo (rowQuestions (length (o .generators)) (o .d) (length plain) (length undetected) (length buffer))) buffer
+    unlessRefused (firstNo (rowQuestions (o .version) (length (o .generators)) (o .d) (length plain) (length undetected) (length buffer))) buffer
     (laidOut (rowText o events paths polynomial plain undetected) buffer)
 
 unfoldable pub refusalCall : (number left : ℕ) → List ℕ → Answer ℕ × List ℕ

@@ -24,10 +24,13 @@ pub enum Written {
     Refused(u64),
 }
 
-// Questions 3, 7 and 10: the number of the first that says no, or 0.
+// Questions 2, 3, 7 and 10: the number of the first that says no, or 0.
 fn ask_row(o: OrderRecord, plain: usize, undetected: usize, size: usize) -> u64
-    ensures { λ r. ⌜ r ≡ firstNo (rowQuestions (o .n) (o .d) plain undetected size) ⌝ }
+    ensures { λ r. ⌜ r ≡ firstNo (rowQuestions (o .version) (o .n) (o .d) plain undetected size) ⌝ }
 {
+    if !from_to(1, 2, o.version) {
+        return 2;
+    }
     if !from_to(2, 4, o.n) {
         return 3;
     }

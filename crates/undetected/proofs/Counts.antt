@@ -110,7 +110,7 @@ module _ (o : Order) where
 
   undetected-in : (p w : ℕ) → count (λ u. eqb (remainder (o .m) p u) 0) (wordsOfWeight o w) ≡ undetectedCount o p w
   unfolding wordsOfWeight undetectedCount passes
-  undetected-in p w = count-filter (λ u. eqb (remainder (o .m) p u) 0) (λ u. eqb (weight (o .N) (o .generators) u) w) (words (o .N))
+  undetected-in p w = count-filter (λ u. eqb (remainder (o .m) p u) 0) (λ u. eqb (weight o u) w) (words (o .N))
 
   module _ (np nc : ℕ) where
     divided-of : (p w : ℕ) → w < o .d → dividedOf (o .m) p (pathTable np o) (padded nc 0 (plainCounts o)) w ≡ undetectedCount o p w

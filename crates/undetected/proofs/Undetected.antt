@@ -24,16 +24,16 @@ abbrev pub undetectedWords : Order → ℕ → ℕ → List ℕ
 undetectedWords o p w = filter (passes o p w) (words (o .N))
 
 module _ (o : Order) (p w : ℕ) where
-  of-passes : (u : ℕ) → T (passes o p w u) → (weight (o .N) (o .generators) u ≡ w) × (remainder (o .m) p u ≡ 0)
+  of-passes : (u : ℕ) → T (passes o p w u) → (weight o u ≡ w) × (remainder (o .m) p u ≡ 0)
   unfolding passes
   of-passes u t =
-      let h = T-and (eqb (weight (o .N) (o .generators) u) w) (eqb (remainder (o .m) p u) 0) .0 t in
-      (eqb→eq (weight (o .N) (o .generators) u) w (h .0), eqb→eq (remainder (o .m) p u) 0 (h .1))
+      let h = T-and (eqb (weight o u) w) (eqb (remainder (o .m) p u) 0) .0 t in
+      (eqb→eq (weight o u) w (h .0), eqb→eq (remainder (o .m) p u) 0 (h .1))
 
-  in-passes : (u : ℕ) → weight (o .N) (o .generators) u ≡ w → remainder (o .m) p u ≡ 0 → T (passes o p w u)
+  in-passes : (u : ℕ) → weight o u ≡ w → remainder (o .m) p u ≡ 0 → T (passes o p w u)
   unfolding passes
   in-passes u e r =
-      let x : ℕ = weight (o .N) (o .generators) u in
+      let x : ℕ = weight o u in
       let y : ℕ = remainder (o .m) p u in
       T-and (eqb x w) (eqb y 0) .1 (subst (λ z. T (eqb x z)) e (eqb-refl x), subst (λ z. T (eqb y z)) r (eqb-refl y))
 
@@ -47,8 +47,8 @@ module _ (o : Order) (p w : ℕ) where
   pub undetected-le-plain : undetectedCount o p w ≤ length (wordsOfWeight o w)
   unfolding undetectedCount count wordsOfWeight passes
   undetected-le-plain =
-      length-filter-mono (passes o p w) (λ u. eqb (weight (o .N) (o .generators) u) w)
-      (λ u t. T-and (eqb (weight (o .N) (o .generators) u) w) (eqb (remainder (o .m) p u) 0) .0 t .0) (words (o .N))
+      length-filter-mono (passes o p w) (λ u. eqb (weight o u) w)
+      (λ u t. T-and (eqb (weight o u) w) (eqb (remainder (o .m) p u) 0) .0 t .0) (words (o .N))
 
   -- ---- of a polynomial of the order's degree
 

@@ -1,5 +1,5 @@
--- What a check polynomial leaves undetected: how many nonzero words of each weight it divides. From division and cyclic products over the
--- words 1 to 2^N - 1; no event, state, walk or table enters here.
+-- What a check polynomial leaves undetected: how many nonzero words of each weight it divides. From division and the weight of words, which is by
+-- products, over the words 1 to 2^N - 1; no event, state, walk or table enters here.
 -- Counting tests that the remainder is 0. `IsUndetected` says the same with ordinary products, and `undetected-means-divided` (proofs/Undetected.antt)
 -- that each count is the number of the words that it describes: no reader has to know about remainders.
 -- Assumes nothing.
@@ -19,7 +19,7 @@ use Rattle.paths.specs.Paths.{words, weights}
 
 -- u weighs w, and p divides u
 unfoldable pub passes : Order → ℕ → ℕ → ℕ → Bool
-passes o p w u = eqb (weight (o .N) (o .generators) u) w && eqb (remainder (o .m) p u) 0
+passes o p w u = eqb (weight o u) w && eqb (remainder (o .m) p u) 0
 
 -- how many nonzero words of weight w pass the check of p unseen
 unfoldable pub undetectedCount : Order → ℕ → ℕ → ℕ
@@ -35,7 +35,7 @@ undetectedCounts o p = map (undetectedCount o p) (weights o)
 pub record IsUndetected (o : Order) (p w u : ℕ) : Type 0 where
   pub nonzero : 1 ≤ u
   pub fits : u < 2 ^ o .N
-  pub weighs : weight (o .N) (o .generators) u ≡ w
+  pub weighs : weight o u ≡ w
   pub divided : Divides p u
 
 -- k is how many of these words there are: a list of k words, none twice, has just these as members

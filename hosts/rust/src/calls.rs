@@ -22,6 +22,9 @@ pub struct Answer {
 #[repr(C)]
 #[derive(Clone, Copy, Debug, Default, PartialEq, Eq)]
 pub struct AnyOrder {
+    /// The version of its record: 1 for a tail-biting link, 2 for a terminated
+    /// one.
+    pub version: u64,
     pub n: u64,
     pub v: u64,
     pub bits: u64,
@@ -80,8 +83,8 @@ pub struct Part {
 }
 
 const _: () = assert!(std::mem::size_of::<Answer>() == 32);
-const _: () = assert!(std::mem::size_of::<AnyOrder>() == 72);
-const _: () = assert!(std::mem::size_of::<OrderAnswer>() == 80);
+const _: () = assert!(std::mem::size_of::<AnyOrder>() == 80);
+const _: () = assert!(std::mem::size_of::<OrderAnswer>() == 88);
 const _: () = assert!(std::mem::size_of::<Event>() == 40);
 const _: () = assert!(std::mem::size_of::<Listing>() == 24);
 const _: () = assert!(std::mem::size_of::<Row>() == 40);

@@ -2,14 +2,15 @@
 //! counts are tested against the library and not proved: nothing but the sizes
 //! of tables may depend on them.
 
-use crate::{Entries, Order};
+use crate::{Entries, Link, Order};
 use std::mem::{replace, swap};
+use std::ops::Range;
 
 /// Counts the events of each state, and the words that they are joined to.
 pub fn count(order: &Order) -> Entries {
     let trellis = Trellis::of(order);
     let (mut events, mut words) = (0u64, 0u64);
-    for state in 0..trellis.states {
+    for state in trellis.homes() {
         let by_length = trellis.events(state);
         let all = by_length.iter().map(Enumerator::total);
         events = all.fold(events, u64::saturating_add);
@@ -27,7 +28,8 @@ struct Trellis {
     states: usize,
     /// The weight of the step in which the last v+1 inputs are these.
     step_weights: Vec<usize>,
-    /// N, the steps of a word.
+    link: Link,
+    /// The steps of a word.
     steps: usize,
     /// The threshold: weights below it are counted.
     d: usize,
@@ -43,8 +45,17 @@ impl Trellis {
         Trellis {
             states,
             step_weights: (0..2 * states as u64).map(weight).collect(),
-            steps: order.bits() as usize,
+            link: order.link(),
+            steps: order.steps() as usize,
             d: order.d() as usize,
+        }
+    }
+
+    /// The states that have events: on a terminated link, 0 alone.
+    fn homes(&self) -> Range<usize> {
+        match self.link {
+            Link::TailBiting => 0..self.states,
+            Link::Terminated => 0..1,
         }
     }
 
@@ -81,7 +92,8 @@ impl Trellis {
     }
 
     /// The words whose smallest state has these events: such a word is a chain of
-    /// them, entered at any step of the first.
+    /// them, entered at any step of the first, or on a terminated link at the
+    /// first step alone.
     fn words(&self, events: &[Enumerator]) -> u64 {
         let mut chains = vec![Enumerator::one(self.d)];
         for length in 1..self.steps {
@@ -93,7 +105,11 @@ impl Trellis {
         }
         let mut words = Enumerator::none(self.d);
         for (first, event) in events.iter().enumerate().skip(1) {
-            words.add_product(first as u64, event, &chains[self.steps - first]);
+            let entries = match self.link {
+                Link::TailBiting => first as u64,
+                Link::Terminated => 1,
+            };
+            words.add_product(entries, event, &chains[self.steps - first]);
         }
         words.total()
     }

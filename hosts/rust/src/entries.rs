@@ -120,7 +120,7 @@ impl Error for NoRoom {}
 #[cfg(test)]
 mod tests {
     use super::{Entries, NoRoom};
-    use crate::{Order, Refusal};
+    use crate::{AnyOrder, Link, Order, Refusal};
 
     fn entries(events: usize, paths: usize) -> Entries {
         Entries { events, paths }
@@ -136,6 +136,21 @@ mod tests {
         assert_eq!(needed(&[1, 3], 1, 4, 6), entries(5, 13));
         assert_eq!(needed(&[1, 3], 1, 4, 7), entries(5, 15));
         assert_eq!(needed(&[1, 3], 1, 2, 3), entries(2, 1));
+    }
+
+    #[test]
+    fn terminated_orders() {
+        let needed = |generators: &[u64], v, bits, d| {
+            let any = AnyOrder::new(generators, v, bits, 1, d);
+            Entries::needed(&Order::of(any.with_link(Link::Terminated)).unwrap())
+        };
+        assert_eq!(needed(&[1, 3], 1, 3, 6), entries(4, 6));
+        assert_eq!(needed(&[1, 3], 1, 3, 1), entries(1, 0));
+        assert_eq!(needed(&[0o13, 0o17], 3, 70, 14), entries(489, 43_512));
+        // One bit takes 9 steps and weighs 2, from the first place to the last.
+        assert_eq!(needed(&[1, 0o400], 8, 128, 5), entries(10, 8256));
+        let all = needed(&[0o561, 0o753], 8, 128, 64);
+        assert_eq!(all, entries(usize::MAX, usize::MAX));
     }
 
     #[test]

@@ -18,7 +18,9 @@
 //! takes any.
 //!
 //! Notation: a polynomial over GF(2) is a number whose bit j is the
-//! coefficient of x^j. `bits` is N, the bits of a word; v is the memory.
+//! coefficient of x^j. `bits` is N, the bits of a word; v is the memory. An order
+//! says the kind of its link by the version of its record; `AnyOrder::new` and
+//! `Order::new` make tail-biting ones, `with_link` the others (`Link`).
 //!
 //! ```
 //! use dohvrin::{append, strip, test, weigh, AnyOrder, Refusal, Stripped};
@@ -88,6 +90,7 @@
 pub mod calls;
 mod counting;
 mod entries;
+mod link;
 mod listing;
 mod order;
 mod refusal;
@@ -98,6 +101,7 @@ mod word;
 
 pub use calls::{AnyOrder, Event};
 pub use entries::{Entries, NoRoom};
+pub use link::Link;
 pub use listing::{collect, list, part, words, Listed, WORK};
 pub use order::Order;
 pub use refusal::Refusal;

@@ -15,8 +15,8 @@ pub struct Listed {
     pub paths: usize,
 }
 
-/// The error events of weight below d, at most N steps long: how many. The
-/// table has them first, by state, length and input number, and zero records
+/// The error events of weight below d, at most N steps long, or on a terminated
+/// link those of state 0 alone, at most N+v steps long: how many. The table has them first, by state, length and input number, and zero records
 /// after them; the work area, of `WORK` numbers at least, is zeros. Refusal 13,
 /// more events than entries, leaves zeros in both; another refusal leaves both
 /// as they were. The order's m is not asked about.

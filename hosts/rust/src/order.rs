@@ -1,7 +1,7 @@
 //! An order that the library accepts.
 
 use crate::refusal::accepted;
-use crate::{calls, search, AnyOrder, Lent, Refusal};
+use crate::{calls, search, AnyOrder, Lent, Link, Refusal};
 
 /// An order. There is none that questions 1 to 9, or 16, would refuse.
 ///
@@ -13,18 +13,31 @@ use crate::{calls, search, AnyOrder, Lent, Refusal};
 /// assert_eq!(Order::new(&[1, 4], 1, 4, 2, 6), Err(Refusal::Generator));
 /// assert_eq!(Order::new(&[3, 3], 1, 4, 2, 6), Err(Refusal::SharedFactor));
 /// ```
+///
+/// Without a word about it the link is tail-biting:
+///
+/// ```
+/// use dohvrin::{weigh, AnyOrder, Link, Order};
+///
+/// let any = AnyOrder::new(&[1, 3], 1, 3, 2, 6);
+/// let terminated = Order::of(any.with_link(Link::Terminated)).unwrap();
+/// assert_eq!(terminated.link(), Link::Terminated);
+/// assert_eq!(weigh(terminated.any(), 7), Ok(5));
+/// assert_eq!(weigh(any, 7), Ok(3));
+/// ```
 #[derive(Clone, Debug, PartialEq, Eq)]
 pub struct Order(AnyOrder);
 
 impl AnyOrder {
-    /// The order of these numbers. Of more than four generators, which question
-    /// 3 refuses, the first four are kept.
+    /// The order of these numbers, for a tail-biting link. Of more than four
+    /// generators, which question 3 refuses, the first four are kept.
     pub fn new(generators: &[u64], v: u64, bits: u64, m: u64, d: u64) -> AnyOrder {
         let mut four = [0; 4];
         for (to, g) in four.iter_mut().zip(generators) {
             *to = *g;
         }
         AnyOrder {
+            version: Link::TailBiting.version(),
             n: generators.len() as u64,
             v,
             bits,
@@ -36,11 +49,16 @@ impl AnyOrder {
 }
 
 impl Order {
-    /// The order of these numbers, or the first question from 3 on that says
-    /// no. The library is asked: with nothing lent, the search refuses a wrong
-    /// order by its question, and a right one by question 10.
+    /// The order of these numbers, for a tail-biting link, or the first question
+    /// from 3 on that says no.
     pub fn new(generators: &[u64], v: u64, bits: u64, m: u64, d: u64) -> Result<Order, Refusal> {
-        let order = AnyOrder::new(generators, v, bits, m, d);
+        Order::of(AnyOrder::new(generators, v, bits, m, d))
+    }
+
+    /// The order, or the first question from 2 on that says no. The library is
+    /// asked: with nothing lent, the search refuses a wrong order by its
+    /// question, and a right one by question 10.
+    pub fn of(mut order: AnyOrder) -> Result<Order, Refusal> {
         let nothing = Lent {
             events: &mut [],
             paths: &mut [],
@@ -50,7 +68,11 @@ impl Order {
         };
         match search(order, nothing) {
             Err(refusal) if refusal != Refusal::Room => Err(refusal),
-            _ => Ok(Order(order)),
+            _ => {
+                // As a record gives it, so that equal orders are equal.
+                order.generators[order.n as usize..].fill(0);
+                Ok(Order(order))
+            }
         }
     }
 
@@ -65,10 +87,16 @@ impl Order {
     pub fn record(&self) -> Vec<u8> {
         // No number of an accepted order is above 128, no generator above 2^9 - 1.
         let AnyOrder {
-            n, v, bits, m, d, ..
+            version,
+            n,
+            v,
+            bits,
+            m,
+            d,
+            ..
         } = self.0;
-        let mut bytes = vec![0, 6 + 2 * n as u8, 1];
-        bytes.extend([n, v, bits, m, d].map(|number| number as u8));
+        let mut bytes = vec![0, 6 + 2 * n as u8];
+        bytes.extend([version, n, v, bits, m, d].map(|number| number as u8));
         let generators = self.generators().iter();
         bytes.extend(generators.flat_map(|&g| (g as u16).to_be_bytes()));
         bytes
@@ -77,6 +105,11 @@ impl Order {
     /// The order as the calls take it.
     pub fn any(&self) -> AnyOrder {
         self.0
+    }
+
+    /// The kind of its link.
+    pub fn link(&self) -> Link {
+        Link::of(self.0.version).expect("question 2 passed it")
     }
 
     /// The n generators.
@@ -94,6 +127,11 @@ impl Order {
         self.0.bits
     }
 
+    /// The steps of a word: N, and v more on a terminated link.
+    pub fn steps(&self) -> u64 {
+        self.link().steps(self.0.v, self.0.bits)
+    }
+
     /// m, the check degree.
     pub fn m(&self) -> u64 {
         self.0.m
@@ -108,7 +146,7 @@ impl Order {
 #[cfg(test)]
 mod tests {
     use super::Order;
-    use crate::Refusal;
+    use crate::{AnyOrder, Link, Refusal};
 
     #[test]
     fn the_first_question_that_says_no() {
@@ -127,19 +165,50 @@ mod tests {
     }
 
     #[test]
+    fn the_kind_is_asked_about_first() {
+        let right = AnyOrder::new(&[1, 3], 1, 4, 2, 6);
+        for version in [0, 3, 255, 1 << 32 | 1, u64::MAX] {
+            let none = Err(Refusal::Version);
+            assert_eq!(Order::of(AnyOrder { version, ..right }), none);
+            let n = 0;
+            assert_eq!(
+                Order::of(AnyOrder {
+                    version,
+                    n,
+                    ..right
+                }),
+                none
+            );
+        }
+    }
+
+    #[test]
     fn a_record_and_back() {
-        let bytes = [0, 10, 1, 2, 1, 4, 2, 6, 0, 1, 0, 3];
-        let order = Order::from_record(&bytes).unwrap();
-        assert_eq!(order, Order::new(&[1, 3], 1, 4, 2, 6).unwrap());
-        assert_eq!(order.record(), bytes);
-        let large = Order::new(&[0o561, 0o753, 0o400, 1], 8, 128, 12, 64).unwrap();
-        assert_eq!(Order::from_record(&large.record()), Ok(large));
+        for link in Link::ALL {
+            let bytes = [0, 10, link.version() as u8, 2, 1, 4, 2, 6, 0, 1, 0, 3];
+            let order = Order::from_record(&bytes).unwrap();
+            let any = AnyOrder::new(&[1, 3], 1, 4, 2, 6).with_link(link);
+            assert_eq!(Order::of(any), Ok(order.clone()));
+            assert_eq!((order.link(), order.record()), (link, bytes.to_vec()));
+            let large = AnyOrder::new(&[0o561, 0o753, 0o400, 1], 8, 128, 12, 64);
+            let large = Order::of(large.with_link(link)).unwrap();
+            assert_eq!(Order::from_record(&large.record()), Ok(large));
+        }
+    }
+
+    #[test]
+    fn generators_past_the_nth_make_no_difference() {
+        let mut any = AnyOrder::new(&[1, 3], 1, 4, 2, 6);
+        any.generators[2..].fill(7);
+        assert_eq!(Order::of(any), Order::new(&[1, 3], 1, 4, 2, 6));
     }
 
     #[test]
     fn damaged_records() {
         assert_eq!(Order::from_record(&[]), Err(Refusal::RecordLength));
-        assert_eq!(Order::from_record(&[0, 0]), Err(Refusal::RecordVersion));
+        assert_eq!(Order::from_record(&[0, 0]), Err(Refusal::Version));
+        assert_eq!(Order::from_record(&[0, 1, 3]), Err(Refusal::Version));
+        assert_eq!(Order::from_record(&[0, 1, 2]), Err(Refusal::GeneratorCount));
         assert_eq!(Order::from_record(&[0, 1, 1]), Err(Refusal::GeneratorCount));
     }
 }

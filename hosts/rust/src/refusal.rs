@@ -10,8 +10,8 @@ use std::mem::discriminant;
 pub enum Refusal {
     /// Question 1.
     RecordLength,
-    /// Question 2.
-    RecordVersion,
+    /// Question 2: the kind of link, by the version of its record.
+    Version,
     /// Question 3.
     GeneratorCount,
     /// Question 4.
@@ -45,7 +45,7 @@ pub enum Refusal {
 /// All of them in the order of their numbers, from 1 on.
 const ALL: [Refusal; 16] = [
     Refusal::RecordLength,
-    Refusal::RecordVersion,
+    Refusal::Version,
     Refusal::GeneratorCount,
     Refusal::Memory,
     Refusal::WordLength,
@@ -83,7 +83,7 @@ impl Refusal {
     pub fn meaning(self) -> &'static str {
         match self {
             Refusal::RecordLength => "the record's length bytes do not count the bytes after them",
-            Refusal::RecordVersion => "the record's version is not 1",
+            Refusal::Version => "the version is neither 1, tail-biting, nor 2, terminated",
             Refusal::GeneratorCount => {
                 "the generators are not 2 to 4, or the record's length is not 6 + 2n"
             }

@@ -66,8 +66,9 @@ pub fn count(order: AnyOrder, polynomial: u64, lent: Lent) -> Result<Listed, Ref
 }
 
 /// The text of a row, as `dso` prints it, of any numbers: how many bytes of the
-/// buffer it takes, with zeros after them. Only the number of generators (3), d
-/// (7), and the sizes are asked for (10: fewer counts than d, a buffer below
+/// buffer it takes, with zeros after them. The text does not say the kind of
+/// link. Only the version (2), the number of generators (3), d (7), and the sizes
+/// are asked for (10: fewer counts than d, a buffer below
 /// `TEXT`); a refusal leaves the buffer as it was.
 pub fn row_text(
     order: AnyOrder,

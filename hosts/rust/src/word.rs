@@ -43,8 +43,8 @@ pub fn weigh(order: AnyOrder, word: u128) -> Result<u64, Refusal> {
     Ok(answer.value)
 }
 
-/// The codeword of a word, n bits for each step, each a byte, and zeros to the
-/// end of the output. A refusal leaves the output as it was. The order's m and
+/// The codeword of a word, n bits for each step, of which a terminated link has
+/// v more, each a byte, and zeros to the end of the output. A refusal leaves the output as it was. The order's m and
 /// d are not asked about.
 pub fn encode(order: AnyOrder, word: u128, output: &mut [u8]) -> Result<(), Refusal> {
     accepted(calls::encode(order, word, output))

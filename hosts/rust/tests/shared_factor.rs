@@ -1,8 +1,11 @@
 //! Question 16 of every call that takes a code: after 9, before 10 to 14, and
 //! with nothing changed that was lent.
 
+mod lent;
+
 use dohvrin::{collect, count, encode, list, search, weigh};
-use dohvrin::{AnyOrder, Event, Lent, Order, Refusal, WORK};
+use dohvrin::{AnyOrder, Lent, Order, Refusal, WORK};
+use lent::lent;
 
 /// Both have the factor x+1.
 fn order() -> AnyOrder {
@@ -20,28 +23,6 @@ fn before_the_output_and_the_word() {
         assert_eq!(encode(order(), too_wide, &mut output), Err(NO));
         assert_eq!(output, vec![9; room]);
     }
-}
-
-/// What a call answers with tables of so many entries and a work area of so many
-/// numbers, none of which it may change.
-fn lent<T>(entries: usize, work: usize, call: impl Fn(Lent) -> T) -> T {
-    let held = Event {
-        state: 9,
-        ..Event::default()
-    };
-    let (mut events, mut work) = (vec![held; entries], vec![9; work]);
-    let mut numbers = [vec![9; 2 * entries], vec![9; entries], vec![9; entries]];
-    let before = (events.clone(), numbers.clone(), work.clone());
-    let [paths, plain, undetected] = &mut numbers;
-    let answer = call(Lent {
-        events: &mut events,
-        paths,
-        plain,
-        undetected,
-        work: &mut work,
-    });
-    assert!((events, numbers, work) == before);
-    answer
 }
 
 #[test]

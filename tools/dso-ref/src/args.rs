@@ -1,5 +1,6 @@
 //! The command line.
 
+use dso_ref::link::Kind;
 use dso_ref::order::record_bytes;
 use dso_ref::{Lent, Method};
 
@@ -12,6 +13,7 @@ Prints the row of an order as dso does. The order is given as the ORDER line
 shows it, generators in octal and the rest decimal, or with - as a record on
 standard input.
 
+  --terminated     a terminated link: v zeros follow the word
   --events E       entries of the event table (512)
   --paths P        entries of the path table (2048)
   --of 0x61        undetected counts of this polynomial, without a search
@@ -55,6 +57,7 @@ struct Options {
     of: Option<u64>,
     method: Option<Method>,
     list: Option<Wanted>,
+    terminated: bool,
     record: bool,
     help: bool,
 }
@@ -90,6 +93,7 @@ impl Options {
             "--of" => self.of = Some(polynomial(&value()?)?),
             "--method" => self.method = Some(method(&value()?)?),
             "--list" => self.list = Some(listed(&value()?)?),
+            "--terminated" => self.terminated = true,
             "--record" => self.record = true,
             "--help" => self.help = true,
             _ => return Err(format!("{option}: no such option (see --help)")),
@@ -120,9 +124,16 @@ impl Options {
             if self.record {
                 return Err("-: with --record the order is given as numbers".to_string());
             }
+            if self.terminated {
+                return Err("--terminated: a record says it by its version".to_string());
+            }
             return Ok(args(Source::Input, wanted));
         }
-        let bytes = record(order)?;
+        let kind = match self.terminated {
+            true => Kind::Terminated,
+            false => Kind::TailBiting,
+        };
+        let bytes = record(kind, order)?;
         if self.record {
             return Ok(args(Source::Input, Wanted::Record(bytes)));
         }
@@ -165,7 +176,7 @@ fn listed(value: &str) -> Result<Wanted, String> {
 
 /// The record of the numbers. Whatever a record can say is left to the
 /// questions: a wrong number of generators, say, or N = 129.
-fn record(order: &[String]) -> Result<Vec<u8>, String> {
+fn record(kind: Kind, order: &[String]) -> Result<Vec<u8>, String> {
     let mut numbers = [0; 5];
     for (at, name) in ["n", "v", "N", "m", "d"].iter().enumerate() {
         let value = order
@@ -188,7 +199,7 @@ fn record(order: &[String]) -> Result<Vec<u8>, String> {
             generators.len()
         )
     };
-    record_bytes(numbers, &generators).ok_or_else(too_many)
+    record_bytes(kind, numbers, &generators).ok_or_else(too_many)
 }
 
 /// A number of digits alone: the parser of the language would take a sign.

@@ -1,8 +1,10 @@
 //! Error events, walked as they are defined: from state i back to i in 1 to N
-//! steps, all states in between greater than i, weight below d.
+//! steps, all states in between greater than i, weight below d. A terminated
+//! link has those of state 0 alone, in 1 to N+v steps.
 
 use crate::link::Code;
 use crate::order::Order;
+use crate::poly;
 use crate::questions::{self, Asked, Refusal};
 use crate::trellis::{Trellis, NEVER};
 
@@ -35,7 +37,8 @@ impl Event {
         let (next, weight) = trellis.step(at, b);
         let longer = Event {
             length: self.length + 1,
-            input: self.input | (b as u128) << self.length,
+            // A one past all bits is on no walk that comes home in time.
+            input: self.input | poly::at_place(b, self.length),
             weight: self.weight + u32::from(weight),
             ..self
         };
@@ -64,7 +67,7 @@ pub fn list(order: &Order, capacity: usize) -> Result<Vec<Event>, Refusal> {
     listed(order.code(), order.threshold(), capacity)
 }
 
-/// The collection as a call that takes no check degree: questions 3, 4, 5, 7,
+/// The collection as a call that takes no check degree: questions 2, 3, 4, 5, 7,
 /// 8, 9, 16, 10 about a work area of `work` numbers, and 13.
 pub fn collect(
     code: Code,
@@ -76,8 +79,9 @@ pub fn collect(
     listed(code, threshold, entries)
 }
 
-/// Questions 3, 4, 5, 7, 8, 9, 16, and 10 about a work area of `work` numbers.
+/// Questions 2, 3, 4, 5, 7, 8, 9, 16, and 10 about a work area of `work` numbers.
 pub fn ask(code: Code, threshold: usize, work: usize) -> Asked {
+    questions::kind(code.version)?;
     questions::generator_count(code.generators.len())?;
     questions::memory(code.memory)?;
     questions::length(code.memory, code.length)?;
@@ -100,13 +104,13 @@ fn listed(code: Code, threshold: usize, capacity: usize) -> Result<Vec<Event>, R
 }
 
 /// The events to be listed, in order, of a right code: every walk from each
-/// state is followed until it is home, below home, as heavy as the threshold
-/// or as long as the words, and none is cut for what it still needs. Nothing
+/// home is followed until it is back, below home, as heavy as the threshold
+/// or as long as the walk of a word, and none is cut for what it still needs. Nothing
 /// where that takes more than `most` steps.
 pub fn walked(code: Code, threshold: usize, most: usize) -> Option<Vec<Event>> {
     let trellis = Trellis::new(code.memory, code.generators);
     let (mut events, mut ahead, mut steps) = (Vec::new(), Vec::new(), 0);
-    for home in 0..trellis.states() {
+    for home in code.homes() {
         ahead.push((home, Event::start(home)));
         while let Some((state, so_far)) = ahead.pop() {
             for b in 0..2 {
@@ -117,7 +121,7 @@ pub fn walked(code: Code, threshold: usize, most: usize) -> Option<Vec<Event>> {
                 }
                 if next == home {
                     events.push(longer);
-                } else if longer.length < code.length {
+                } else if longer.length < code.steps() {
                     ahead.push((next, longer));
                 }
             }
@@ -133,17 +137,19 @@ pub fn walked(code: Code, threshold: usize, most: usize) -> Option<Vec<Event>> {
 /// Whether records are events to be listed, each once and in their order.
 pub fn are_listed(code: Code, threshold: usize, records: &[Event]) -> bool {
     let trellis = Trellis::new(code.memory, code.generators);
-    let right = |record| is_walk_home(&trellis, code.length, threshold, record);
+    let right = |record: &Event| {
+        code.homes().contains(&record.state)
+            && is_walk_home(&trellis, code.steps(), threshold, record)
+    };
     let name = |e: &Event| (e.state, e.length, e.input);
     records.iter().all(right) && records.windows(2).all(|two| name(&two[0]) < name(&two[1]))
 }
 
 /// Whether the record's input leads from its state through states above it
 /// home, in its length and with its weight, both within the limits.
-fn is_walk_home(trellis: &Trellis, length: usize, threshold: usize, record: &Event) -> bool {
-    let short = (1..=length).contains(&record.length);
-    let high = record.state < trellis.states();
-    if !short || !high || record.input.checked_shr(record.length as u32).unwrap_or(0) != 0 {
+fn is_walk_home(trellis: &Trellis, steps: usize, threshold: usize, record: &Event) -> bool {
+    let short = (1..=steps).contains(&record.length);
+    if !short || record.input.checked_shr(record.length as u32).unwrap_or(0) != 0 {
         return false;
     }
     let (mut state, mut walk) = (record.state, Event::start(record.state));
@@ -151,7 +157,7 @@ fn is_walk_home(trellis: &Trellis, length: usize, threshold: usize, record: &Eve
         if t > 0 && state <= record.state {
             return false;
         }
-        (state, walk) = walk.step(trellis, state, (record.input >> t & 1) as usize);
+        (state, walk) = walk.step(trellis, state, poly::bit(record.input, t).into());
     }
     state == record.state && walk == *record && (walk.weight as usize) < threshold
 }
@@ -160,8 +166,8 @@ fn is_walk_home(trellis: &Trellis, length: usize, threshold: usize, record: &Eve
 /// them all.
 fn walk_all(code: Code, threshold: usize, take: &mut impl FnMut(Event) -> bool) -> bool {
     let trellis = Trellis::new(code.memory, code.generators);
-    (0..trellis.states()).all(|home| {
-        let need = least_return(&trellis, home, code.length);
+    code.homes().all(|home| {
+        let need = least_return(&trellis, home, code.steps());
         let mut walk = Walk {
             trellis: &trellis,
             home,
@@ -175,7 +181,7 @@ fn walk_all(code: Code, threshold: usize, take: &mut impl FnMut(Event) -> bool) 
 
 /// By steps left, then state: the least weight of a walk back home in at most
 /// these steps, through states above home.
-fn least_return(trellis: &Trellis, home: usize, length: usize) -> Vec<Vec<u8>> {
+fn least_return(trellis: &Trellis, home: usize, steps: usize) -> Vec<Vec<u8>> {
     let mut here = vec![NEVER; trellis.states()];
     here[home] = 0;
     let longer = |after: &Vec<u8>| {
@@ -185,7 +191,7 @@ fn least_return(trellis: &Trellis, home: usize, length: usize) -> Vec<Vec<u8>> {
         Some(before)
     };
     std::iter::successors(Some(here), longer)
-        .take(length)
+        .take(steps)
         .collect()
 }
 

@@ -6,8 +6,9 @@
 //! hexadecimal with all m+1 bits: 0x43 is x^6+x+1. A word is a `u128`.
 //!
 //! Counts come from two methods. `words` takes all words one by one;
-//! `table` moves a table over (state, remainder, weight) through the N steps
-//! of the trellis. Error events are walked for their own sake only: no path
+//! `table` moves a table over (state, remainder, weight) through the steps of
+//! the trellis. A link's kind, tail-biting or terminated, is part of its code
+//! (`link::Code`), and all methods take their steps and start states from that. Error events are walked for their own sake only: no path
 //! and no count is made from them.
 
 pub mod events;

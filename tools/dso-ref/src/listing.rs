@@ -13,7 +13,7 @@ use std::ops::Range;
 /// The greatest length at which all words are taken one by one.
 pub const LONGEST: usize = 18;
 
-/// Questions 3, 4, 5, 7, 8, 9, 16, and 10 about a work area of `work` numbers and
+/// Questions 2, 3, 4, 5, 7, 8, 9, 16, and 10 about a work area of `work` numbers and
 /// plain counts of `counts` entries.
 pub fn ask(code: Code, threshold: usize, counts: usize, work: usize) -> Asked {
     events::ask(code, threshold, work)?;
@@ -24,7 +24,7 @@ pub fn ask(code: Code, threshold: usize, counts: usize, work: usize) -> Asked {
 /// number. Refusal 14 where they are more than `capacity`.
 ///
 /// All words are taken one by one, or, where they are too long for that, walks
-/// of N steps from each start state, after a table has counted them.
+/// from each start state, after a table has counted them.
 pub fn list(code: Code, threshold: usize, capacity: usize) -> Result<Vec<(u32, u128)>, Refusal> {
     if code.length <= LONGEST {
         if let Some(words) = Words::of(code, threshold) {
@@ -72,12 +72,9 @@ pub fn part(numbers: usize, counts: &[u64], weight: u64) -> Result<Range<usize>,
 #[cfg(test)]
 mod tests {
     use super::*;
+    use crate::link::Kind;
 
-    const S: Code = Code {
-        memory: 1,
-        length: 4,
-        generators: &[1, 3],
-    };
+    const S: Code = Code::of(Kind::TailBiting, 1, 4, &[1, 3]);
 
     #[test]
     fn the_hand_row_of_s() {
@@ -96,11 +93,21 @@ mod tests {
     }
 
     #[test]
+    fn the_terminated_row_of_s() {
+        let code = Code::of(Kind::Terminated, 1, 3, &[1, 3]);
+        let paths = [(3, 1), (3, 2), (3, 4), (4, 3), (4, 6), (5, 7)];
+        assert_eq!(list(code, 6, 6).unwrap(), paths);
+        assert_eq!(list(code, 6, 5), Err(Refusal::No(14)));
+        assert_eq!(plain(code, 6, 6).unwrap(), [0, 0, 0, 3, 2, 1]);
+    }
+
+    #[test]
     fn questions_in_order() {
         assert_eq!(ask(S, 7, 7, 8192), Ok(()));
         assert_eq!(ask(S, 7, 6, 8192), Err(Refusal::No(10)));
         assert_eq!(ask(S, 7, 7, 8191), Err(Refusal::No(10)));
         assert_eq!(ask(S, 0, 7, 0), Err(Refusal::No(7)));
+        assert_eq!(ask(Code { version: 3, ..S }, 0, 7, 0), Err(Refusal::No(2)));
         let shared = Code {
             generators: &[3, 3],
             ..S

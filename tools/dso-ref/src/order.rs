@@ -1,11 +1,12 @@
 //! The order and its record.
 
-use crate::link::Code;
+use crate::link::{Code, Kind};
 use crate::questions::{self, Asked, Refusal};
 
-/// An order that has passed questions 3 to 9 and 16.
+/// An order that has passed questions 2 to 9 and 16.
 #[derive(Clone, Debug, PartialEq, Eq)]
 pub struct Order {
+    kind: Kind,
     memory: usize,
     length: usize,
     degree: usize,
@@ -14,43 +15,43 @@ pub struct Order {
 }
 
 impl Order {
-    /// Asks questions 3 to 9 and 16 about v, N, m, d and the generators.
-    pub fn new(
-        memory: usize,
-        length: usize,
-        degree: usize,
-        threshold: usize,
-        generators: &[u64],
-    ) -> Result<Order, Refusal> {
-        questions::generator_count(generators.len())?;
-        questions::memory(memory)?;
-        questions::length(memory, length)?;
-        questions::degree(degree, length)?;
+    /// Asks questions 2 to 9 and 16 about a code, m and d.
+    pub fn new(code: Code, degree: usize, threshold: usize) -> Result<Order, Refusal> {
+        let kind = questions::kind(code.version)?;
+        questions::generator_count(code.generators.len())?;
+        questions::memory(code.memory)?;
+        questions::length(code.memory, code.length)?;
+        questions::degree(degree, code.length)?;
         questions::threshold(threshold)?;
-        questions::generators(memory, generators)?;
-        let generators = generators.to_vec();
+        questions::generators(code.memory, code.generators)?;
         Ok(Order {
-            memory,
-            length,
+            kind,
+            memory: code.memory,
+            length: code.length,
             degree,
             threshold,
-            generators,
+            generators: code.generators.to_vec(),
         })
     }
 
     /// Asks questions 1 to 9 and 16 about the bytes of a record.
     pub fn from_record(bytes: &[u8]) -> Result<Order, Refusal> {
         let body = body_of(bytes)?;
-        if body.first() != Some(&1) {
-            return Err(Refusal::No(2));
-        }
+        let version = *body.first().ok_or(Refusal::No(2))?;
+        let kind = questions::kind(version.into())?;
         check_count(body)?;
         let number = |at: usize| usize::from(body[at]);
         let generators: Vec<u64> = body[6..]
             .chunks_exact(2)
             .map(|pair| u64::from(u16::from_be_bytes([pair[0], pair[1]])))
             .collect();
-        Order::new(number(2), number(3), number(4), number(5), &generators)
+        let code = Code::of(kind, number(2), number(3), &generators);
+        Order::new(code, number(4), number(5))
+    }
+
+    /// The kind of its link.
+    pub fn kind(&self) -> Kind {
+        self.kind
     }
 
     /// The memory v.
@@ -80,11 +81,7 @@ impl Order {
 
     /// Its code, as the calls take it.
     pub fn code(&self) -> Code<'_> {
-        Code {
-            memory: self.memory,
-            length: self.length,
-            generators: &self.generators,
-        }
+        Code::of(self.kind, self.memory, self.length, &self.generators)
     }
 }
 
@@ -110,12 +107,12 @@ fn check_count(body: &[u8]) -> Asked {
     Ok(())
 }
 
-/// The record of n, v, N, m, d and any generators, right or not; nothing where
-/// its length does not fit into 2 bytes.
-pub fn record_bytes(numbers: [u8; 5], generators: &[u16]) -> Option<Vec<u8>> {
+/// The record of a link with n, v, N, m, d and any generators, right or not;
+/// nothing where its length does not fit into 2 bytes.
+pub fn record_bytes(kind: Kind, numbers: [u8; 5], generators: &[u16]) -> Option<Vec<u8>> {
     let length = u16::try_from(6 + 2 * generators.len()).ok()?;
     let mut bytes = length.to_be_bytes().to_vec();
-    bytes.push(1);
+    bytes.push(kind.version() as u8);
     bytes.extend_from_slice(&numbers);
     for g in generators {
         bytes.extend_from_slice(&g.to_be_bytes());
@@ -132,9 +129,34 @@ mod tests {
     #[test]
     fn the_record_of_document_01_is_read_and_written() {
         let order = Order::from_record(&ROW).unwrap();
-        assert_eq!(order, Order::new(1, 4, 2, 6, &[1, 3]).unwrap());
-        assert_eq!(record_bytes([2, 1, 4, 2, 6], &[1, 3]).unwrap(), ROW);
-        assert_eq!(record_bytes([0; 5], &[0; 32_765]), None);
+        let kind = Kind::TailBiting;
+        let code = Code::of(kind, 1, 4, &[1, 3]);
+        assert_eq!(order, Order::new(code, 2, 6).unwrap());
+        assert_eq!(record_bytes(kind, [2, 1, 4, 2, 6], &[1, 3]).unwrap(), ROW);
+        assert_eq!(record_bytes(kind, [0; 5], &[0; 32_765]), None);
+    }
+
+    #[test]
+    fn the_version_says_the_kind() {
+        for version in 0..=255 {
+            let mut bytes = ROW;
+            bytes[2] = version;
+            let read = Order::from_record(&bytes);
+            match version {
+                1 => assert_eq!(read.unwrap().kind(), Kind::TailBiting),
+                2 => {
+                    assert_eq!(read.unwrap().kind(), Kind::Terminated);
+                    let numbers = [2, 1, 4, 2, 6];
+                    let written = record_bytes(Kind::Terminated, numbers, &[1, 3]);
+                    assert_eq!(written.unwrap(), bytes);
+                }
+                _ => assert_eq!(read, Err(Refusal::No(2))),
+            }
+            // Before n is looked at.
+            bytes[3] = 0;
+            let number = if (1..=2).contains(&version) { 3 } else { 2 };
+            assert_eq!(Order::from_record(&bytes), Err(Refusal::No(number)));
+        }
     }
 
     #[test]
@@ -156,10 +178,17 @@ mod tests {
 
     #[test]
     fn the_limits_of_questions_4_to_9_and_16() {
-        let no = |v, length, m, d, g: &[u64]| match Order::new(v, length, m, d, g) {
-            Ok(_) => 0,
-            Err(Refusal::No(number)) => number,
-            Err(Refusal::Tie(_)) => 15,
+        let no = |v, length, m, d, g: &[u64]| {
+            let [one, other] =
+                Kind::ALL.map(
+                    |kind| match Order::new(Code::of(kind, v, length, g), m, d) {
+                        Ok(_) => 0,
+                        Err(Refusal::No(number)) => number,
+                        Err(Refusal::Tie(_)) => 15,
+                    },
+                );
+            assert_eq!(one, other);
+            one
         };
         assert_eq!(no(0, 4, 2, 6, &[1, 3]), 4);
         assert_eq!(no(9, 20, 2, 6, &[1, 3]), 4);

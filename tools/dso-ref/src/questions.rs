@@ -2,6 +2,7 @@
 //! concern the values it takes, in the order of their numbers, but for 16, which
 //! stands after 9.
 
+use crate::link::Kind;
 use crate::poly;
 
 /// The answer of a refused call.
@@ -22,6 +23,12 @@ fn ask(number: u8, yes: bool) -> Asked {
     } else {
         Err(Refusal::No(number))
     }
+}
+
+/// Question 2: is the version that of a kind of link, and of which?
+pub fn kind(version: u64) -> Result<Kind, Refusal> {
+    let named = |kind: &Kind| kind.version() == version;
+    Kind::ALL.into_iter().find(named).ok_or(Refusal::No(2))
 }
 
 /// Question 3 outside a record: are there 2 to 4 generators?
@@ -71,9 +78,9 @@ pub fn common_divisor(v: usize, generators: &[u64]) -> Asked {
     ask(16, !(2..2 << v).any(divides_all))
 }
 
-/// Question 10, for the codeword output: is there room for n times N bits?
-pub fn codeword_room(room: usize, n: usize, length: usize) -> Asked {
-    ask(10, room >= n * length)
+/// Question 10, for the codeword output: is there room for n bits a step?
+pub fn codeword_room(room: usize, n: usize, steps: usize) -> Asked {
+    ask(10, room >= n * steps)
 }
 
 /// Question 10, for the work area: has it 8,192 numbers or more?

@@ -1,17 +1,22 @@
 //! Counting by a table over (state, remainder, weight), moved through the N
 //! steps of the trellis, once for each start state, and read where the state
-//! has come back and the remainder is 0.
+//! has come back and the remainder is 0. On a terminated link the only start
+//! is state 0, and the steps are N+v: a walk that is back has had zeros in the
+//! last v of them.
 
 use crate::layer::{Key, Layer};
 use crate::link::Code;
 use crate::order::Order;
 use crate::search::Counter;
 use crate::trellis::{Trellis, NEVER};
+use std::ops::Range;
 
 /// The table of a code and length: what is the same for every polynomial.
 pub struct Table {
     trellis: Trellis,
-    length: usize,
+    steps: usize,
+    starts: Range<usize>,
+    /// By start state.
     least: Vec<Return>,
     cells: Cells,
 }
@@ -29,13 +34,13 @@ impl Table {
     /// The table of a right code, for weights below the threshold.
     pub fn of(code: Code, threshold: usize) -> Table {
         let trellis = Trellis::new(code.memory, code.generators);
-        let length = code.length;
-        let least = (0..trellis.states())
-            .map(|start| least_return(&trellis, start, length))
-            .collect();
+        let (steps, starts) = (code.steps(), code.homes());
+        let of = |start| least_return(&trellis, start, steps);
+        let least = starts.clone().map(of).collect();
         Table {
             trellis,
-            length,
+            steps,
+            starts,
             least,
             cells: Cells::new(threshold),
         }
@@ -46,9 +51,14 @@ impl Table {
         &self.trellis
     }
 
-    /// The length N.
-    pub fn length(&self) -> usize {
-        self.length
+    /// The steps of a word's walk.
+    pub fn steps(&self) -> usize {
+        self.steps
+    }
+
+    /// The states where walks begin.
+    pub fn starts(&self) -> Range<usize> {
+        self.starts.clone()
     }
 
     /// The least weights back to a start state.
@@ -60,10 +70,10 @@ impl Table {
     /// 0. After each start state `stop` may end it.
     fn count(&mut self, powers: &[u32], counts: &mut [u128], stop: impl Fn(&[u128]) -> bool) {
         // Most words start at state 0: kept for last, it is often spared.
-        for start in (0..self.trellis.states()).rev() {
+        for start in self.starts().rev() {
             self.cells.start(start);
             for (t, &power) in powers.iter().enumerate() {
-                let need = &self.least[start][self.length - 1 - t];
+                let need = &self.least[start][self.steps - 1 - t];
                 self.cells.step(&self.trellis, power, need, counts.len());
             }
             self.cells.read(start, counts);
@@ -82,16 +92,16 @@ impl Table {
 
 impl Counter for Table {
     fn plain(&mut self, below: usize) -> Vec<u128> {
-        self.counts(&vec![0; self.length], below)
+        self.counts(&vec![0; self.steps], below)
     }
 
     fn undetected(&mut self, p: u64, below: usize) -> Vec<u128> {
-        self.counts(&powers_of_x(p as u32, self.length), below)
+        self.counts(&powers_of_x(p as u32, self.steps), below)
     }
 
     fn undetected_up_to(&mut self, most: u128, p: u64, w: usize) -> Option<u128> {
         let mut counts = vec![0; w + 1];
-        self.count(&powers_of_x(p as u32, self.length), &mut counts, |counts| {
+        self.count(&powers_of_x(p as u32, self.steps), &mut counts, |counts| {
             counts[w] > most
         });
         Some(counts[w]).filter(|&count| count <= most)
@@ -100,7 +110,7 @@ impl Counter for Table {
 
 /// x^t mod p for the places t from 0. The walk meets the low end of the word
 /// first, so a remainder is the sum of these over the word's ones.
-fn powers_of_x(p: u32, length: usize) -> Vec<u32> {
+fn powers_of_x(p: u32, steps: usize) -> Vec<u32> {
     let top = 1 << (31 - p.leading_zeros());
     let times_x = |r: &u32| {
         Some(if r << 1 & top == 0 {
@@ -111,16 +121,16 @@ fn powers_of_x(p: u32, length: usize) -> Vec<u32> {
     };
     // Degree 1 or more: x^0 is its own remainder.
     std::iter::successors(Some(1), times_x)
-        .take(length)
+        .take(steps)
         .collect()
 }
 
-fn least_return(trellis: &Trellis, start: usize, length: usize) -> Return {
+fn least_return(trellis: &Trellis, start: usize, steps: usize) -> Return {
     let mut here = vec![NEVER; trellis.states()];
     here[start] = 0;
     let longer = |after: &Vec<u8>| Some(trellis.step_before(after));
     std::iter::successors(Some(here), longer)
-        .take(length)
+        .take(steps)
         .collect()
 }
 

@@ -1,6 +1,6 @@
 //! Counting by taking all words one by one, straight from the definition.
 
-use crate::link::Code;
+use crate::link::{self, Code};
 use crate::order::Order;
 use crate::poly;
 use crate::search::Counter;
@@ -26,7 +26,7 @@ impl Words {
         }
         let mut by_weight = vec![Vec::new(); threshold];
         for u in 1..1 << code.length {
-            if let Some(part) = by_weight.get_mut(weight(code, u)) {
+            if let Some(part) = by_weight.get_mut(link::ones(code, u) as usize) {
                 part.push(u);
             }
         }
@@ -57,15 +57,6 @@ impl Words {
             .filter(|&&u| poly::divides(p, u))
             .count() as u128
     }
-}
-
-/// The number of ones in all outputs u g modulo x^N+1.
-fn weight(code: Code, u: u128) -> usize {
-    let outputs = code
-        .generators
-        .iter()
-        .map(|&g| poly::cyclic_product(u, g, code.length));
-    outputs.map(|out| out.count_ones() as usize).sum()
 }
 
 impl Counter for Words {

@@ -4,7 +4,7 @@ mod common;
 
 use common::Random;
 use dso_ref::events::{self, Event};
-use dso_ref::link;
+use dso_ref::link::{self, Kind};
 use dso_ref::poly;
 use dso_ref::row::{self, count};
 use dso_ref::search::{Best, Counter};
@@ -98,9 +98,13 @@ fn the_path_table_is_exactly_full_or_one_short() {
 /// The events as the definition has them: every walk of every length.
 fn events_by_definition(order: &Order) -> Vec<Event> {
     let states = 1usize << order.memory();
+    let (of_states, longest) = match order.kind() {
+        Kind::TailBiting => (states, order.length()),
+        Kind::Terminated => (1, order.length() + order.memory()),
+    };
     let mut events = Vec::new();
-    for state in 0..states {
-        for length in 1..=order.length() {
+    for state in 0..of_states {
+        for length in 1..=longest {
             for input in 0..1u128 << length {
                 let (mut at, mut weight, mut between) = (state, 0, true);
                 for t in 0..length {

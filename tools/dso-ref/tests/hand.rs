@@ -1,7 +1,7 @@
 //! The rows of document 01 to check by hand, and what it says of each answer.
 
 use dso_ref::events;
-use dso_ref::link::Code;
+use dso_ref::link::{Code, Kind};
 use dso_ref::row::{self, count, row};
 use dso_ref::search::Best;
 use dso_ref::table::Table;
@@ -9,7 +9,11 @@ use dso_ref::words::Words;
 use dso_ref::{Failure, Lent, Method, Order, Refusal, Row};
 
 fn order(length: usize, m: usize, d: usize, generators: &[u64]) -> Order {
-    Order::new(1, length, m, d, generators).unwrap()
+    Order::new(Code::of(Kind::TailBiting, 1, length, generators), m, d).unwrap()
+}
+
+fn terminated(v: usize, length: usize, m: usize, d: usize, generators: &[u64]) -> Order {
+    Order::new(Code::of(Kind::Terminated, v, length, generators), m, d).unwrap()
 }
 
 fn run(order: &Order, lent: Lent) -> Result<Row, Failure> {
@@ -47,15 +51,16 @@ fn code_s_of_length_3() {
 
 #[test]
 fn the_collection_takes_no_check_degree_and_asks_in_order() {
-    let code = |memory, length, generators| Code {
-        memory,
-        length,
-        generators,
-    };
+    let code = |memory, length, generators| Code::of(Kind::TailBiting, memory, length, generators);
     let no = |number| Err(Refusal::No(number));
     let loops = |code| events::collect(code, 2, 2, 8192).map(|listed| listed.len());
     // One step from each state back to it: 0 of weight 0, 1 of weight 1.
     assert_eq!(loops(code(1, 1, &[1, 3])), Ok(2));
+    let wrong = Code {
+        version: 3,
+        ..code(0, 0, &[0])
+    };
+    assert_eq!(events::collect(wrong, 0, 0, 0), no(2));
     assert_eq!(events::collect(code(0, 0, &[0]), 0, 0, 0), no(3));
     assert_eq!(events::collect(code(0, 0, &[0, 0]), 0, 0, 0), no(4));
     assert_eq!(events::collect(code(2, 1, &[0, 0]), 0, 0, 0), no(5));
@@ -105,7 +110,9 @@ fn the_shortest_rows() {
 
 #[test]
 fn generators_that_share_a_factor() {
-    let refused = |v, length, generators: &[u64]| Order::new(v, length, 1, 1, generators).err();
+    let refused = |v, length, generators: &[u64]| {
+        Order::new(Code::of(Kind::TailBiting, v, length, generators), 1, 1).err()
+    };
     assert_eq!(refused(1, 2, &[3, 3]), Some(Refusal::No(16)));
     assert_eq!(refused(2, 2, &[5, 3]), Some(Refusal::No(16)));
     assert_eq!(refused(3, 70, &[0o13, 0o17]), None);
@@ -125,7 +132,8 @@ fn tables_exactly_full_and_one_short() {
 fn the_longest_and_heaviest_orders_are_answered_at_once() {
     let few_events = order(128, 12, 64, &[1, 3]);
     assert_eq!(run(&few_events, Lent::default()), no(14));
-    let many_events = Order::new(8, 128, 12, 64, &[0o561, 0o753]).unwrap();
+    let code = Code::of(Kind::TailBiting, 8, 128, &[0o561, 0o753]);
+    let many_events = Order::new(code, 12, 64).unwrap();
     assert_eq!(run(&many_events, Lent::default()), no(13));
     assert_eq!(run(&order(128, 12, 1, &[1, 3]), Lent::default()), tie(2048));
 }
@@ -154,4 +162,45 @@ fn the_words_alone_end_at_length_20() {
         row(&long, Lent::default(), None, Method::Words),
         Err(Failure::TooLong)
     );
+}
+
+#[test]
+fn code_s_terminated() {
+    let s = terminated(1, 3, 2, 6, &[1, 3]);
+    let listed: Vec<String> = events::list(&s, 4)
+        .unwrap()
+        .iter()
+        .map(|e| e.to_string())
+        .collect();
+    // The longest has N+v steps.
+    assert_eq!(listed, ["0 1 0 0", "0 2 3 1", "0 3 4 3", "0 4 5 7"]);
+    assert_eq!(events::list(&s, 3), Err(Refusal::No(13)));
+    let row = run(&s, Lent::default()).unwrap();
+    assert_eq!((row.events, row.paths, row.polynomial), (4, 6, 0x5));
+    assert_eq!(row.plain, [0, 0, 0, 3, 2, 1]);
+    assert_eq!(row.undetected, [0; 6]);
+    let with = |events, paths| run(&s, Lent { events, paths });
+    assert!(with(4, 6).is_ok());
+    assert_eq!(with(4, 5), no(14));
+    assert_eq!(with(3, 5), no(13));
+}
+
+#[test]
+fn the_longest_terminated_orders() {
+    // One bit has weight 2, and takes 9 steps: 128 words end at step 136 at last.
+    let long = terminated(8, 128, 7, 5, &[1, 0o400]);
+    let all = Lent {
+        events: 100,
+        paths: 8256,
+    };
+    let row = row(&long, all, Some(0x83), Method::Table).unwrap();
+    // Two bits up to 8 places apart are one event, else two.
+    assert_eq!((row.events, row.paths), (10, 8256));
+    assert_eq!(row.plain, [0, 0, 128, 0, 8128]);
+    // x^7+x+1 divides x^127+1.
+    assert_eq!(row.undetected, [0, 0, 0, 0, 1]);
+    let many = terminated(8, 128, 12, 64, &[0o561, 0o753]);
+    assert_eq!(run(&many, Lent::default()), no(13));
+    let none = terminated(1, 128, 12, 1, &[1, 3]);
+    assert_eq!(run(&none, Lent::default()), tie(2048));
 }

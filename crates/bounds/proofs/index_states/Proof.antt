@@ -1,4 +1,4 @@
--- The places, then N.
+-- The places, then the number of steps.
 -- Assumes nothing.
 use borrow.Author.Needs.{needs}
 use Prim.Native.Nat.{ℕ}

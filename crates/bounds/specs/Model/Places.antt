@@ -2,12 +2,9 @@
 -- Assumes nothing.
 use Prim.Native.Nat.{ℕ, _+_}
 use mathlib.Core.List.{List, [], _∷_}
+use Rattle.code.specs.Model.Steps.{mostSteps}
 
--- ---- how much there is at most
-
--- N, and so a length and the steps of a chain
-abbrev pub mostSteps : ℕ
-mostSteps = 128
+-- ---- how much there is at most: a length, and the steps of a chain, are at most the steps of a word
 
 -- the lengths, 0 among them
 abbrev pub lengthCount : ℕ
@@ -46,7 +43,7 @@ startPlace = 1536
 abbrev pub fillPlace : ℕ
 fillPlace = 1792
 
--- N
+-- the steps of a word
 abbrev pub bitsPlace : ℕ
 bitsPlace = 2048
 

@@ -9,7 +9,8 @@ use lib.ListN.{length, getD, set}
 use Rattle.events.specs.declared.Event.{Event}
 use Rattle.events.specs.Events.{noEvent}
 use Rattle.bounds.specs.declared.Chain.{Chain}
-use Rattle.bounds.specs.Model.Places.{mostSteps, lengthCount, stateCount, tooHeavy, firstPlace, stateEndPlace, leastPlace, lengthEndPlace, startPlace, fillPlace, bitsPlace, endPlace, areaSize}
+use Rattle.code.specs.Model.Steps.{mostSteps}
+use Rattle.bounds.specs.Model.Places.{lengthCount, stateCount, tooHeavy, firstPlace, stateEndPlace, leastPlace, lengthEndPlace, startPlace, fillPlace, bitsPlace, endPlace, areaSize}
 
 -- the first event of state i or above
 abbrev pub firstOf : List ℕ → ℕ → ℕ

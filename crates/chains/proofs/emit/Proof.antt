@@ -15,7 +15,9 @@ push-turns-requires c κs =
     let ask = c .before .before .before .before .before .pre in
     record {
       near = ask .near;
-      word = record { some-bits = ask .some-bits; at-most-128 = ask .small .bits-small; fits = rw (c .make .ensures) (ask .word-small) };
+      some-bits = ask .some-bits;
+      fits = rw (c .make .ensures) (ask .word-small);
+      short-to-turn = ask .short-to-turn;
     }
 
 same-length : tie.Need-same-length

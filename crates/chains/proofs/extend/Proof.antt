@@ -3,7 +3,7 @@
 use borrow.Author.Needs.{needs}
 use native.Mathlib.Omega.{arith}
 use Rattle.bounds.specs.Model.Tables.{bitsAt}
-use Rattle.chains.proofs.extend.Proof.Joint.{place-small, input-up, joined-halves}
+use Rattle.chains.proofs.extend.Proof.Joint.{input-up, joined-halves}
 use Rattle.chains.proofs.extend.Statement.{statement}
 use Rattle.chains.proofs.extend.Tie as tie
 mod Joint
@@ -25,7 +25,6 @@ join-input-requires c κs =
     let start = c .before .before .before .before .before in
     let ask = start .pre in
     record {
-      near = place-small ask;
       below = rw (c .before .make .ensures) (ask .unfinished .word-small);
       fits = input-up ask _ (c .make2 .ensures);
     }

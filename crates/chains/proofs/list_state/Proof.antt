@@ -22,7 +22,7 @@ use Rattle.chains.proofs.list_state.Code as code
 mod Steps
 
 abbrev ks : List (Kind 3)
-ks = shared 0 tt T.the-row ∷ lent 1 tt u64 ∷ lent 2 tt u64 ∷ by-value number ∷ by-value number ∷ by-value number ∷ []
+ks = shared 0 tt T.the-row ∷ lent 1 tt u64 ∷ lent 2 tt u64 ∷ by-value number ∷ by-value number ∷ by-value number ∷ by-value number ∷ []
 
 module _ {M : Type 1} (𝓤 : URA M) (H : Heap 𝓤) (𝓜 : Model 𝓤 H) (𝓖 : GhostRules 𝓤 H) (𝓡 : Running 𝓤 H 𝓜) where
   abbrev 𝓣 : Tables 𝓤 H
@@ -33,8 +33,8 @@ module _ {M : Type 1} (𝓤 : URA M) (H : Heap 𝓤) (𝓜 : Model 𝓤 H) (𝓖
 
   walk : Each ks Goal
   unfolding tablesOf
-  walk events work paths at i w =
-      let ps : List Par = the events ∷ all-of work ∷ all-of paths ∷ val at ∷ val i ∷ val w ∷ [] in
+  walk events work paths at i first w =
+      let ps : List Par = the events ∷ all-of work ∷ all-of paths ∷ val at ∷ val i ∷ val first ∷ val w ∷ [] in
       begin-asked 𝓤 H 𝓜 𝓖 𝓡 code.env ks number (list-state.clauses 𝓤 H) code.function ps (own-bound ps, tt) (λ ok. ok) (λ e. e) (λ ends ask bs.
       let few : i .it < stateCount = ask .state-small in
       let enough : areaSize ≤ length (work .was) = ask .indexed .enough in
@@ -42,8 +42,8 @@ module _ {M : Type 1} (𝓤 : URA M) (H : Heap 𝓤) (𝓜 : Model 𝓤 H) (𝓖
       -- where the state's events begin, and where they end
       relend ! 3 work refl refl $
       shares-at ! tt 1 work (work .was) refl refl (λ x.
-      let first : List Par = shr (at-loan work x) (work .was) refl ∷ val i ∷ [] in
-      calls-into 𝓣 ! 4 (2 ∷ []) first number none (λ xs. first-of.met 𝓤 H 𝓜 𝓖 𝓡 (bound first xs, tt))
+      let starting : List Par = shr (at-loan work x) (work .was) refl ∷ val i ∷ [] in
+      calls-into 𝓣 ! 4 (2 ∷ []) starting number none (λ xs. first-of.met 𝓤 H 𝓜 𝓖 𝓡 (bound starting xs, tt))
       (asks (givenOf 𝓤 H 𝓜 𝓖) (enough, omega (arith, few))) tt refl refl (λ f f-ok _ is-f _.
       unshares-at ! tt 1 work (work .was) refl x refl $
       relend ! 3 work refl refl $
@@ -71,7 +71,7 @@ module _ {M : Type 1} (𝓤 : URA M) (H : Heap 𝓤) (𝓜 : Model 𝓤 H) (𝓖
       -- a chain that is not begun, and all that go on
       relend ! 3 work refl refl $
       shares-at ! tt 1 work ws kw refl (λ z.
-      let beginning : List Par = shr (at-loan work z) ws kw ∷ val w ∷ [] in
+      let beginning : List Par = shr (at-loan work z) ws kw ∷ val first ∷ val w ∷ [] in
       calls-into 𝓣 ! 4 (2 ∷ []) beginning Chain none (λ xs. unbegun.met 𝓤 H 𝓜 𝓖 𝓡 (bound beginning xs, tt))
       (asks (givenOf 𝓤 H 𝓜 𝓖) (asks-unbegun ask is-state)) tt refl refl (λ begun begun-ok _ is-begun _.
       relend ! 4 work refl refl $ relend ! 4 paths refl refl $

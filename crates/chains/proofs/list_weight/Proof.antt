@@ -18,7 +18,7 @@ use Rattle.chains.proofs.list_weight.Code as code
 mod Turns
 
 abbrev ks : List (Kind 3)
-ks = shared 0 tt T.the-row ∷ lent 1 tt u64 ∷ lent 2 tt u64 ∷ by-value number ∷ by-value number ∷ by-value number ∷ []
+ks = shared 0 tt T.the-row ∷ lent 1 tt u64 ∷ lent 2 tt u64 ∷ by-value number ∷ by-value number ∷ by-value number ∷ by-value number ∷ []
 
 module _ {M : Type 1} (𝓤 : URA M) (H : Heap 𝓤) (𝓜 : Model 𝓤 H) (𝓖 : GhostRules 𝓤 H) (𝓡 : Running 𝓤 H 𝓜) where
   abbrev 𝓣 : Tables 𝓤 H
@@ -29,12 +29,12 @@ module _ {M : Type 1} (𝓤 : URA M) (H : Heap 𝓤) (𝓜 : Model 𝓤 H) (𝓖
 
   walk : Each ks Goal
   unfolding tablesOf
-  walk events work paths at states w =
-      let ps : List Par = the events ∷ all-of work ∷ all-of paths ∷ val at ∷ val states ∷ val w ∷ [] in
+  walk events work paths at states first w =
+      let ps : List Par = the events ∷ all-of work ∷ all-of paths ∷ val at ∷ val states ∷ val first ∷ val w ∷ [] in
       begin-asked 𝓤 H 𝓜 𝓖 𝓡 code.env ks number (list-weight.clauses 𝓤 H) code.function ps (own-bound ps, tt) (λ ok. ok) (λ e. e) (λ ends ask bs.
       makes ! 3 (of-opd ! (var ! 3 refl)) refl (tt, record { fits = at .is .1 }) $
       makes ! 3 (of-opd ! (lit ! tt)) refl (tt, record { fits = lit< tt }) $
-      while ! 𝓣 3 9 (1 ∷ 2 ∷ []) (Stage ask) (λ x. states .it - x .i) (λ x. (7, vint w64 (x .next)) ∷ (8, vint w64 (x .i)) ∷ [])
+      while ! 𝓣 3 10 (1 ∷ 2 ∷ []) (Stage ask) (λ x. states .it - x .i) (λ x. (8, vint w64 (x .next)) ∷ (9, vint w64 (x .i)) ∷ [])
       (λ x. mut work (x .us) (x .stands .same-us) ∷ mut paths (x .ls) (x .stands .same-ls) ∷ []) (λ x. ltb (x .i) (states .it))
       refl record {
         i = 0;
@@ -52,11 +52,11 @@ module _ {M : Type 1} (𝓤 : URA M) (H : Heap 𝓤) (𝓜 : Model 𝓤 H) (𝓖
       relend ! 3 work refl refl $ relend ! 3 paths refl refl $
       let us : Par = mut work (x .us) (x .stands .same-us) in
       let ls : Par = mut paths (x .ls) (x .stands .same-ls) in
-      let listing : List Par = the events ∷ us ∷ ls ∷ num (x .next) (x .next-fits) ∷ num (x .i) (x .i-fits) ∷ val w ∷ [] in
+      let listing : List Par = the events ∷ us ∷ ls ∷ num (x .next) (x .next-fits) ∷ num (x .i) (x .i-fits) ∷ val first ∷ val w ∷ [] in
       calls-into 𝓣 ! 3 (0 ∷ 1 ∷ 2 ∷ []) listing number (just (vint w64 (x .next)))
       (λ xs. list-state.met 𝓤 H 𝓜 𝓖 𝓡 (bound listing xs, tt))
       (asks (givenOf 𝓤 H 𝓜 𝓖) (asks-state ask x small)) tt refl refl (λ r is-r (us′, (ls′, _)) turn (same-us, (same-ls, _)).
-      repeats ! 3 9 (bin ! (var ! 3 refl) (lit ! tt) (record { fits = later })) refl (tt, record { fits = later }) refl
+      repeats ! 3 10 (bin ! (var ! 3 refl) (lit ! tt) (record { fits = later })) refl (tt, record { fits = later }) refl
       (back record {
         i = x .i + 1;
         next = r;

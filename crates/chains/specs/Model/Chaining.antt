@@ -8,9 +8,10 @@ use Rattle.events.specs.declared.Event.{Event}
 use Rattle.events.specs.Events.{ErrorEvent, noEvent}
 use Rattle.paths.specs.Paths.{pathRoom}
 use Rattle.paths.specs.Model.Joining.{firstOr, joining, joined}
-use Rattle.rotations.specs.Model.Put.{puts}
+use Rattle.rotations.specs.Model.Put.{puts, ShortToTurn}
 use Rattle.bounds.specs.declared.Chain.{Chain}
-use Rattle.bounds.specs.Model.Places.{mostSteps, stateCount, tooHeavy, areaSize}
+use Rattle.code.specs.Model.Steps.{mostSteps}
+use Rattle.bounds.specs.Model.Places.{stateCount, tooHeavy, areaSize}
 use Rattle.bounds.specs.Model.Tables.{firstOf, startAt, fillAt, bitsAt, endAt, surveyed, opened, closed, Fits, Small, Ready, Segment}
 
 -- a chain weighs at most
@@ -55,9 +56,9 @@ foundBy table work begun e =
     joining (bitsAt work) (joined (begun .steps - 1) (atHand table work) (bitsAt work)) (begun .steps) (inputsOf begun)
     (begun .first) (begun .budget) (errorEvent e)
 
--- a chain that is not begun: all its steps are left
-unfoldable pub unbegun : ℕ → ℕ → Chain
-unbegun N w = record { first = 0; steps = N; budget = w; low = 0; high = 0 }
+-- a chain that is not begun: all its steps are left. `first` is 0, or 1 where a chain is not turned: then one word is emitted, begun 0 steps later
+unfoldable pub unbegun : ℕ → ℕ → ℕ → Chain
+unbegun N first w = record { first = first; steps = N; budget = w; low = 0; high = 0 }
 
 -- ---- state by state
 
@@ -74,27 +75,28 @@ afterStates table zero i work = work
 afterStates table (suc n) i work = afterStates table n (i + 1) (atState table i work)
 
 -- the words of weight w that n states from i on find
-unfoldable pub foundFrom : List Event → ℕ → ℕ → ℕ → List ℕ → List ℕ
-foundFrom table w zero i work = []
-foundFrom table w (suc n) i work =
-    found table (atState table i work) (unbegun (bitsAt work) w) ++ foundFrom table w n (i + 1) (atState table i work)
+unfoldable pub foundFrom : List Event → ℕ → ℕ → ℕ → ℕ → List ℕ → List ℕ
+foundFrom table first w zero i work = []
+foundFrom table first w (suc n) i work =
+    found table (atState table i work) (unbegun (bitsAt work) first w) ++ foundFrom table first w n (i + 1) (atState table i work)
 
 -- the work area, and the words that state i finds appended to a path table
-abbrev pub stateListed : List Event → ℕ → ℕ → List ℕ → List ℕ × ℕ → List ℕ × (List ℕ × ℕ)
-stateListed table w i work s = (atState table i work, puts (found table (atState table i work) (unbegun (bitsAt work) w)) s)
+abbrev pub stateListed : List Event → ℕ → ℕ → ℕ → List ℕ → List ℕ × ℕ → List ℕ × (List ℕ × ℕ)
+stateListed table first w i work s = (atState table i work, puts (found table (atState table i work) (unbegun (bitsAt work) first w)) s)
 
 -- the same of n states from state 0 on
-abbrev pub weightListed : List Event → ℕ → ℕ → List ℕ → List ℕ × ℕ → List ℕ × (List ℕ × ℕ)
-weightListed table w n work s = (afterStates table n 0 work, puts (foundFrom table w n 0 work) s)
+abbrev pub weightListed : List Event → ℕ → ℕ → ℕ → List ℕ → List ℕ × ℕ → List ℕ × (List ℕ × ℕ)
+weightListed table first w n work s = (afterStates table n 0 work, puts (foundFrom table first w n 0 work) s)
 
 -- ---- what is asked of the tables and of a chain begun
 
--- an event that may stand in the table
+-- an event that may stand in the table; joined at any place that it fits, its input stays below 2^128
 pub record Joinable (N : ℕ) (e : Event) : Type 0 where
   pub some-step : 1 ≤ e .length
   pub short : e .length ≤ N
   pub light : e .weight ≤ mostWeight
   pub input-small : wordOf e < 2 ^ e .length
+  pub whole : wordOf e * 2 ^ (N - e .length) < 2 ^ 128
 
 -- the events from place `from` to before place `to` are in the table, and can be noted
 pub record Noted (table : List Event) (from to : ℕ) : Type 0 where
@@ -123,7 +125,7 @@ pub record Joins (table : List Event) (work : List ℕ) : Type 0 where
 pub record Unfinished (N : ℕ) (begun : Chain) : Type 0 where
   pub some-left : 1 ≤ begun .steps
   pub within : begun .steps ≤ N
-  pub first-small : begun .first ≤ mostSteps
+  pub short-to-turn : ShortToTurn (begun .first) N
   pub light : begun .budget ≤ mostWeight
   pub word-small : inputsOf begun < 2 ^ (N - begun .steps)
 
@@ -145,6 +147,7 @@ pub record ToExtend (work : List ℕ) (begun : Chain) (e : Event) : Type 0 where
 pub record ToEmit (work paths : List ℕ) (at : ℕ) (whole : Chain) : Type 0 where
   pub small : Small work
   pub some-bits : 1 ≤ bitsAt work
+  pub short-to-turn : ShortToTurn (whole .first) (bitsAt work)
   pub word-small : inputsOf whole < 2 ^ bitsAt work
   pub near : Near paths at
 
@@ -162,15 +165,17 @@ pub record ToChain (table : List Event) (work paths : List ℕ) (at : ℕ) (begu
   pub near : Near paths at
 
 -- by `list_state`
-pub record ToListState (table : List Event) (work paths : List ℕ) (at i w : ℕ) : Type 0 where
+pub record ToListState (table : List Event) (work paths : List ℕ) (at i first w : ℕ) : Type 0 where
   pub indexed : Indexed table work
   pub state-small : i < stateCount
+  pub short-to-turn : ShortToTurn first (bitsAt work)
   pub light : w < mostWeight
   pub near : Near paths at
 
 -- by `list_weight`
-pub record ToListWeight (table : List Event) (work paths : List ℕ) (at states w : ℕ) : Type 0 where
+pub record ToListWeight (table : List Event) (work paths : List ℕ) (at states first w : ℕ) : Type 0 where
   pub indexed : Indexed table work
   pub few-states : states ≤ stateCount
+  pub short-to-turn : ShortToTurn first (bitsAt work)
   pub light : w < mostWeight
   pub near : Near paths at

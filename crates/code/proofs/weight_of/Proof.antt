@@ -10,8 +10,7 @@ use lib.ListN.{length, drop}
 use Rattle.lists.proofs.Scan.{all-at}
 use Rattle.poly.specs.Word.{number}
 use Rattle.order.proofs.Answers.{below-of-range}
-use Rattle.code.specs.Weight.{weight}
-use Rattle.code.proofs.Calls.{short-word}
+use Rattle.code.specs.Model.Cyclic.{cyclicWeight}
 use Rattle.code.proofs.Weights.{weight-more, weight-end, ones-output-le}
 use Rattle.code.proofs.weight_of.Statement.{statement}
 use Rattle.code.proofs.weight_of.Tie as tie
@@ -19,7 +18,7 @@ use Rattle.code.proofs.weight_of.Tie as tie
 record Weighing (gs : List ℕ) (bits u total i : ℕ) : Type 0 where
   within : i ≤ length gs
   small : total ≤ 128 * i
-  whole : total + weight bits (drop i gs) u ≡ weight bits gs u
+  whole : total + cyclicWeight bits (drop i gs) u ≡ cyclicWeight bits gs u
 
 abbrev Inv-loop : tie.InvT-loop
 Inv-loop generators v bits word total₀ i₀ total i = Weighing generators bits (number word) total i
@@ -41,9 +40,9 @@ cyclic-product-requires c κs =
     let a = c .before .before .before .before .args in
     let p = c .before .before .before .before .pre in
     record {
-      word = short-word p;
+      word = p .word;
       small-memory = omega arith;
-      in-range = below-of-range (a .v) _ (all-at _ (a .generators .now) 0 (c .before .before .loop .i) (p .code .in-range) (omega arith));
+      in-range = below-of-range (a .v) _ (all-at _ (a .generators .now) 0 (c .before .before .loop .i) (p .generators .in-range) (omega arith));
     }
 
 count-requires : tie.Need-count-requires Inv-loop μ-loop
@@ -53,7 +52,7 @@ add-total : tie.Need-add-total Inv-loop μ-loop
 add-total c =
     let p = c .before .before .before .before .before .before .pre in
     let l = c .before .before .before .before .loop .inv in
-    omega (arith, ones-output-le _ _ _ _ _ (short-word p) (c .before .cyclic-product .ensures) (c .count .ensures))
+    omega (arith, ones-output-le _ _ _ _ _ (p .word) (c .before .cyclic-product .ensures) (c .count .ensures))
 
 add-i : tie.Need-add-i Inv-loop μ-loop
 add-i c = omega arith
@@ -69,7 +68,7 @@ loop-again c =
     let ones = c .count .ensures in
     record {
       within = omega arith;
-      small = omega (arith, ones-output-le _ _ _ _ _ (short-word (start .pre)) product ones);
+      small = omega (arith, ones-output-le _ _ _ _ _ (start .pre .word) product ones);
       whole = weight-more _ (start .args .generators .now) _ (l .i) _ _ _ (omega arith) (l .inv .whole) product ones;
     }
 

@@ -16,7 +16,7 @@ rem-t4 : tie.Need-rem-t4
 rem-t4 c = search needs
 
 add-t5 : tie.Need-add-t5
-add-t5 c = let a = c .args in let h : a .k % a .bits < a .bits = mod-lt (a .k) (omega arith) in omega arith
+add-t5 c = let a = c .args in let h : a .k % a .steps < a .steps = mod-lt (a .k) (omega arith) in omega arith
 
 returns : tie.Need-returns
 unfolding first

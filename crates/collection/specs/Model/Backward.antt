@@ -7,6 +7,7 @@ use mathlib.Core.Bool.{Bool, cond, _||_}
 use mathlib.Core.List.{List, [], _∷_, _++_}
 use lib.Dec.{ltb, eqb}
 use lib.ListN.{length, set}
+use Rattle.code.specs.Model.Steps.{mostSteps}
 use Rattle.events.specs.declared.Event.{Event}
 use Rattle.collection.specs.declared.Node.{Node}
 use Rattle.needed.specs.Model.Tables.{need, stepAt, lengthAt, thresholdAt, halfAt, Tables}
@@ -37,9 +38,9 @@ foundIn (suc t) work e = cond (goesOn work e) (foundIn t work (earlier work e 0)
 abbrev pub found : List ℕ → Node → List Event
 found work e = foundIn (e .left) work e
 
--- the first node of turn k: state k / N and length k % N + 1
+-- the first node of turn k, where a word has so many steps: state k / steps and length k % steps + 1
 unfoldable pub first : ℕ → ℕ → Node
-first N k = record { state = k / N; left = k % N + 1; weight = 0; low = 0; high = 0 }
+first steps k = record { state = k / steps; left = k % steps + 1; weight = 0; low = 0; high = 0 }
 
 -- ---- appended to the table, until it is known to be too small: then one more is counted, and no more are looked for
 
@@ -92,8 +93,8 @@ decidedLast ways at room left = cond (eqb ways neither) cut (cond (ltb room at) 
 
 pub record Walkable (e : Node) : Type 0 where
   pub state-small : e .state < 256
-  pub left-small : e .left ≤ 128
-  pub weight-small : e .weight + 4 * e .left ≤ 512
+  pub left-small : e .left ≤ mostSteps
+  pub weight-small : e .weight + 4 * e .left ≤ 4 * mostSteps
 
 -- of a step back, with the register's highest bit
 pub record Back (work : List ℕ) (e : Node) (top : ℕ) : Type 0 where
@@ -111,6 +112,6 @@ pub record TwoBack (work : List ℕ) (low high : Node) : Type 0 where
 -- of the walk from a node, with the position in the table
 pub record Descent (work : List ℕ) (table : List Event) (at : ℕ) (e : Node) : Type 0 where
   pub tables : Tables work
-  pub short : lengthAt work ≤ 128
+  pub short : lengthAt work ≤ mostSteps
   pub walkable : Walkable e
   pub near : at ≤ length table + 1

@@ -21,10 +21,12 @@ use Rattle.chains.proofs.survey.Met as survey
 use Rattle.chains.proofs.list_weight.Met as list-weight
 use Rattle.listing.specs.Model.Steps.{laterWeight, Filling}
 use Rattle.listing.proofs.Answers.{ordered, ends-past, ends-filled}
+use Rattle.listing.proofs.Standing.{Begins}
 use Rattle.listing.proofs.Stages.{Ready, Stage, staged, noted, begun, asked, settles, stands-next, nearer, ends-held, ends-full}
 use Rattle.listing.proofs.index.Met as index
 use Rattle.listing.proofs.state_count.Met as state-count
 use Rattle.listing.proofs.threshold_of.Met as threshold-of
+use Rattle.listing.proofs.unbegun_first.Met as unbegun-first
 use Rattle.listing.proofs.settle.Met as settle
 use Rattle.listing.proofs.later_weight.Met as later-weight
 use Rattle.listing.proofs.fill as fill
@@ -83,30 +85,32 @@ module _ {M : Type 1} (𝓤 : URA M) (H : Heap 𝓤) (𝓜 : Model 𝓤 H) (𝓖
       calls-into 𝓣 ! 4 (0 ∷ 3 ∷ []) surveying nothing (just vunit) (λ xs. survey.met 𝓤 H 𝓜 𝓖 𝓡 (bound surveying xs, tt)) (asks (givenOf 𝓤 H 𝓜 𝓖) (wide, noted b (n .it) (to-fill .all))) ((tt, refl), tt) refl refl (λ _ _ (us₁, _) is-us₁ (ku₁, _).
       relend ! 4 work refl refl $
       let indexing : List Par = val order ∷ mut work us₁ ku₁ ∷ [] in
-      calls-into 𝓣 ! 4 (3 ∷ []) indexing nothing (just vunit) (λ xs. index.met 𝓤 H 𝓜 𝓖 𝓡 (bound indexing xs, tt)) (asks (givenOf 𝓤 H 𝓜 𝓖) (wide-as us₁ _ ku₁ wide)) tt refl refl (λ _ _ (us₂, _) is-us₂ (ku₂, _).
+      calls-into 𝓣 ! 4 (3 ∷ []) indexing nothing (just vunit) (λ xs. index.met 𝓤 H 𝓜 𝓖 𝓡 (bound indexing xs, tt)) (asks (givenOf 𝓤 H 𝓜 𝓖) (to-fill .order .code, wide-as us₁ _ ku₁ wide)) tt refl refl (λ _ _ (us₂, _) is-us₂ (ku₂, _).
       calls-into 𝓣 ! 4 [] (val order ∷ []) number none (λ xs. state-count.met 𝓤 H 𝓜 𝓖 𝓡 (bound (val order ∷ []) xs, tt)) (asks (givenOf 𝓤 H 𝓜 𝓖) (to-fill .order .code)) tt refl refl (λ states is-states _ all _.
       calls 𝓣 ! 4 [] (val order ∷ []) number (λ xs. threshold-of.met 𝓤 H 𝓜 𝓖 𝓡 (bound (val order ∷ []) xs, tt)) tt refl refl (λ d is-d _ e-d _.
+      calls 𝓣 ! 4 [] (val order ∷ []) number (λ xs. unbegun-first.met 𝓤 H 𝓜 𝓖 𝓡 (bound (val order ∷ []) xs, tt)) tt refl refl (λ first is-first _ e-first _.
+      let begins : Begins o states first = record { all-states = all; first-is = e-first } in
       makes ! 4 (of-opd ! (part-of ! 4 1 refl refl refl)) refl (tt, record { fits = paths .room .0 }) $
       makes ! 4 (bin ! (var ! 4 refl) (lit ! tt) (lit< tt)) refl (tt, record { fits = room }) $
       makes ! 4 (of-opd ! (lit ! tt)) refl (tt, record { fits = lit< tt }) $ makes ! 4 (of-opd ! (lit ! tt)) refl (tt, record { fits = lit< tt }) $
       -- weight by weight
-      while ! 𝓣 4 12 (1 ∷ 2 ∷ 3 ∷ []) (Stage b) (λ x. o .d - x .w) (λ x. (10, vint w64 (x .at)) ∷ (11, vint w64 (x .w)) ∷ []) (λ x. mut paths (x .ls) (x .same-ls) ∷ mut plain (x .ms) (x .same-ms) ∷ mut work (x .us) (x .stands .work-size) ∷ []) (λ x. ltb (x .w) d)
+      while ! 𝓣 4 13 (1 ∷ 2 ∷ 3 ∷ []) (Stage b) (λ x. o .d - x .w) (λ x. (11, vint w64 (x .at)) ∷ (12, vint w64 (x .w)) ∷ []) (λ x. mut paths (x .ls) (x .same-ls) ∷ mut plain (x .ms) (x .same-ms) ∷ mut work (x .us) (x .stands .work-size) ∷ []) (λ x. ltb (x .w) d)
       refl (staged b 0 0 ls₀ ms₀ us₂ (begun b (n .it) (work .was) us₁ us₂ ls₀ ms₀ (to-fill .all) (to-fill .zeros) is-us₁ is-us₂ ku₂ no-paths no-counts)) refl (λ x. bin ! (var ! 4 refl) (var ! 4 refl) tt) refl (λ x. refl)
       (λ x less q back.
       let below : x .w < d = ltb→lt (x .w) d less in
       let low : x .w < o .d = subst (λ (m : ℕ). x .w < m) e-d below in
       relend ! 4 work refl refl $ relend ! 4 paths refl refl $
-      let weighing : List Par = the events ∷ mut work (x .us) (x .stands .work-size) ∷ mut paths (x .ls) (x .same-ls) ∷ num (x .at) (x .at-fits) ∷ res number states is-states ∷ num (x .w) (x .w-fits) ∷ [] in
-      calls-into 𝓣 ! 4 (0 ∷ 3 ∷ 1 ∷ []) weighing number none (λ xs. list-weight.met 𝓤 H 𝓜 𝓖 𝓡 (bound weighing xs, tt)) (asks (givenOf 𝓤 H 𝓜 𝓖) (asked b x low states all)) tt refl refl (λ next is-next (us′, (ls′, _)) left (ku′, (kl′, _)).
+      let weighing : List Par = the events ∷ mut work (x .us) (x .stands .work-size) ∷ mut paths (x .ls) (x .same-ls) ∷ num (x .at) (x .at-fits) ∷ res number states is-states ∷ res number first is-first ∷ num (x .w) (x .w-fits) ∷ [] in
+      calls-into 𝓣 ! 4 (0 ∷ 3 ∷ 1 ∷ []) weighing number none (λ xs. list-weight.met 𝓤 H 𝓜 𝓖 𝓡 (bound weighing xs, tt)) (asks (givenOf 𝓤 H 𝓜 𝓖) (asked b x low states first begins)) tt refl refl (λ next is-next (us′, (ls′, _)) left (ku′, (kl′, _)).
       relend ! 4 paths refl refl $ relend ! 4 plain refl refl $
       let settling : List Par = val order ∷ mut paths ls′ kl′ ∷ mut plain (x .ms) (x .same-ms) ∷ num (x .at) (x .at-fits) ∷ res number next is-next ∷ num (x .w) (x .w-fits) ∷ [] in
-      calls-into 𝓣 ! 4 (1 ∷ 2 ∷ []) settling nothing none (λ xs. settle.met 𝓤 H 𝓜 𝓖 𝓡 (bound settling xs, tt)) (asks (givenOf 𝓤 H 𝓜 𝓖) (settles b x low states all us′ ls′ next left)) tt refl refl (λ _ _ (ls″, (ms″, _)) settled _.
+      calls-into 𝓣 ! 4 (1 ∷ 2 ∷ []) settling nothing none (λ xs. settle.met 𝓤 H 𝓜 𝓖 𝓡 (bound settling xs, tt)) (asks (givenOf 𝓤 H 𝓜 𝓖) (settles b x low states first begins us′ ls′ next left)) tt refl refl (λ _ _ (ls″, (ms″, _)) settled _.
       remakes ! 4 (of-opd ! (var ! 4 refl)) refl (tt, record { fits = is-next .1 }) $
       let going-on : List Par = num (x .w) (x .w-fits) ∷ res number d is-d ∷ res number next is-next ∷ num (np / 2) room ∷ [] in
       calls-into 𝓣 ! 4 [] going-on number none (λ xs. later-weight.met 𝓤 H 𝓜 𝓖 𝓡 (bound going-on xs, tt)) (asks (givenOf 𝓤 H 𝓜 𝓖) below) tt refl refl (λ later is-later _ e-later _.
       let is-then : later ≡ laterWeight (x .w) (o .d) next (np / 2) = e-later ∙ ap (λ (m : ℕ). laterWeight (x .w) m next (np / 2)) e-d in
-      repeats ! 4 12 (of-opd ! (var ! 4 refl)) refl (tt, record { fits = is-later .1 }) refl
-      (back (staged b later next ls″ ms″ us′ (stands-next b x low states all us′ ls′ next left ku′ later ls″ ms″ is-then (settled .0) (settled .1))) (nearer b x low later next is-then)) refl))))
+      repeats ! 4 13 (of-opd ! (var ! 4 refl)) refl (tt, record { fits = is-later .1 }) refl
+      (back (staged b later next ls″ ms″ us′ (stands-next b x low states first begins us′ ls′ next left ku′ later ls″ ms″ is-then (settled .0) (settled .1))) (nearer b x low later next is-then)) refl))))
       (λ x done.
       let over-d : o .d ≤ x .w = subst (λ (m : ℕ). m ≤ x .w) e-d (nltb→le (x .w) d done) in
       relend ! 4 work refl refl $
@@ -129,7 +133,7 @@ module _ {M : Type 1} (𝓤 : URA M) (H : Heap 𝓤) (𝓜 : Model 𝓤 H) (𝓖
       (λ inside.
       makes ! 4 (of-opd ! (var ! 4 refl)) refl (tt, record { fits = x .at-fits }) $
       finish 𝓣 ! 4 (ends (x .at) (refl, x .at-fits) (x .ls, (x .ms, (ws′, tt))) (x .same-ls, (x .same-ms, (kw′, tt)))
-      (told-as refl refl refl cleared-work ∙ ends-filled o (paths .was) (plain .was) (work .was) (b .ok) (to-fill .counts) (x .at) (x .ls) (x .ms) (ends-held b x over-d (nltb→le _ (x .at) inside)))) refl refl))))))))))
+      (told-as refl refl refl cleared-work ∙ ends-filled o (paths .was) (plain .was) (work .was) (b .ok) (to-fill .counts) (x .at) (x .ls) (x .ms) (ends-held b x over-d (nltb→le _ (x .at) inside)))) refl refl)))))))))))
 
 pub fill-spec : {M : Type 1} → stated.statement M
 unfolding code.routine

@@ -1,17 +1,14 @@
--- A power of two.
+-- As many as the link tells.
 -- Assumes nothing.
-use native.Mathlib.Omega.{arith}
 use borrow.Author.Needs.{needs}
-use Rattle.order.specs.Answers.{orderIn}
 use Rattle.listing.proofs.state_count.Statement.{statement}
 use Rattle.listing.proofs.state_count.Tie as tie
 
-power-requires : tie.Need-power-requires
-unfolding orderIn
-power-requires c κs = let few = c .pre .small-memory in omega arith
+event-states-requires : tie.Need-event-states-requires
+event-states-requires c κs = c .pre
 
 returns : tie.Need-returns
 returns c = search needs
 
 pub state-count-spec : {M : Type 1} → statement M
-state-count-spec = tie.close (tie.spec power-requires returns)
+state-count-spec = tie.close (tie.spec event-states-requires returns)

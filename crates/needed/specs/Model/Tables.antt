@@ -9,10 +9,11 @@ use mathlib.Core.List.{List, [], _∷_}
 use lib.Dec.{leb, eqb}
 use lib.ListN.{length, getD, set}
 use Rattle.code.specs.Trellis.{stepWeight}
+use Rattle.code.specs.Model.Steps.{mostSteps}
 
 -- ---- the places
 
--- a row has the least weights of all states, eight to a word
+-- a row, one for each step, has the least weights of all states, eight to a word
 abbrev pub rowWords : ℕ
 rowWords = 32
 
@@ -95,10 +96,10 @@ weightsFrom gs (suc n) x work = weightsFrom gs n (x + 1) (set work (stepsPlace +
 unfoldable pub prepared : List ℕ → ℕ → ℕ → List ℕ → List ℕ
 prepared gs v d work = weightsFrom gs stepCount 0 (set (set work thresholdPlace d) halfPlace (2 ^ (v - 1)))
 
--- turn k is of state k / N and length k % N + 1; the first length of a state comes with its table
+-- turn k is of state k / steps and length k % steps + 1, of words of so many steps; the first length of a state comes with its table
 unfoldable pub turned : ℕ → ℕ → ℕ → List ℕ → List ℕ
-turned words N k work =
-    cond (eqb (k % N) 0) (rowsFrom (k / N) words N 0 (set work lengthPlace (k % N + 1))) (set work lengthPlace (k % N + 1))
+turned words steps k work =
+    cond (eqb (k % steps) 0) (rowsFrom (k / steps) words steps 0 (set work lengthPlace (k % steps + 1))) (set work lengthPlace (k % steps + 1))
 
 -- ---- what the functions ask: the numbers kept are small, and so are row and state
 
@@ -110,7 +111,7 @@ pub record Tables (work : List ℕ) : Type 0 where
 -- of the least weight of row t and state s
 pub record Entry (work : List ℕ) (t s : ℕ) : Type 0 where
   pub tables : Tables work
-  pub row : t ≤ 128
+  pub row : t ≤ mostSteps
   pub state : s < 256
 
 -- of the step from p with input b
@@ -123,7 +124,7 @@ pub record Step (work : List ℕ) (p b : ℕ) : Type 0 where
 pub record Rows (work : List ℕ) (words rows : ℕ) : Type 0 where
   pub tables : Tables work
   pub narrow : words ≤ rowWords
-  pub few : rows ≤ 128
+  pub few : rows ≤ mostSteps
 
 -- of the tables before they are prepared
 pub record Unprepared (gs : List ℕ) (v : ℕ) (work : List ℕ) : Type 0 where

@@ -13,8 +13,10 @@ use Rattle.order.specs.Order.{Order}
 use Rattle.order.specs.declared.questions.Takes.{Takes}
 use Rattle.order.specs.declared.questions.Takes.the-variants as T
 
--- questions 3, 4, 5, 8, 9 and 16, of what they are about: whatever else an order has, its code is accepted or not
-pub record CodeAccepted (v N : ℕ) (generators : List ℕ) : Type 0 where
+-- questions 2, 3, 4, 5, 8, 9 and 16, of what they are about: whatever else an order has, its code is accepted or not
+pub record CodeAccepted (version v N : ℕ) (generators : List ℕ) : Type 0 where
+  pub some-version : 1 ≤ version
+  pub known-version : version ≤ 2
   pub some-generators : 2 ≤ length generators
   pub few-generators : length generators ≤ 4
   pub some-memory : 1 ≤ v
@@ -27,7 +29,7 @@ pub record CodeAccepted (v N : ℕ) (generators : List ℕ) : Type 0 where
   pub no-shared-factor : shareFactor generators ≡ false
 
 abbrev pub AcceptedCode : Order → Type 0
-AcceptedCode o = CodeAccepted (o .v) (o .N) (o .generators)
+AcceptedCode o = CodeAccepted (o .version) (o .v) (o .N) (o .generators)
 
 -- 6
 pub record AcceptedDegree (o : Order) : Type 0 where

@@ -1,4 +1,5 @@
--- What the recursion computes (a model): it joins events of one state until their lengths sum to N, and emits the rotations of what it joined.
+-- What the recursion computes (a model): it joins events of one state until their lengths sum to the steps of a word, and emits the rotations of what
+-- it joined; on a terminated link, what it joined alone. N is the number of steps here.
 -- `proofs/Words.antt` joins the model to the definitions: what it emits over all states is the nonzero words of weight w, each once.
 -- Assumes nothing.
 use Prim.Native.Nat.{ℕ, zero, suc, _+_, _-_, _*_, _^_}
@@ -6,6 +7,7 @@ use mathlib.Core.Bool.{Bool, cond, _&&_}
 use mathlib.Core.List.{List, [], map, flatMap}
 use lib.Dec.{leb, ltb, eqb}
 use Rattle.lists.specs.Lists.{upFrom, filter}
+use Rattle.code.specs.Links.{terminated, stepsOf, eventStates}
 use Rattle.code.specs.Trellis.{rotate}
 use Rattle.order.specs.Order.{Order}
 use Rattle.events.specs.Events.{ErrorEvent, eventsOfState}
@@ -40,10 +42,15 @@ unfoldable pub joined : ℕ → List ErrorEvent → ℕ → ℕ → ℕ → ℕ 
 joined zero es N left acc first budget = []
 joined (suc fuel) es N left acc first budget = flatMap (joining N (joined fuel es N) left acc first budget) es
 
+-- What is told as the first event's length before there is one: 0, none yet. On a terminated link 1, which stays: then a chain is emitted once, begun
+-- 0 steps later.
+unfoldable pub unbegunFirst : Order → ℕ
+unbegunFirst o = cond (terminated o) 1 0
+
 -- the words of weight w whose smallest state is i
 unfoldable pub stateWords : Order → ℕ → ℕ → List ℕ
-stateWords o i w = joined (o .N) (eventsOfState o i) (o .N) (o .N) 0 0 w
+stateWords o i w = joined (stepsOf o) (eventsOfState o i) (stepsOf o) (stepsOf o) 0 (unbegunFirst o) w
 
 -- the nonzero words of weight w, in the order in which the recursion meets them
 unfoldable pub chainWords : Order → ℕ → List ℕ
-chainWords o w = flatMap (λ i. stateWords o i w) (upFrom 0 (2 ^ o .v))
+chainWords o w = flatMap (λ i. stateWords o i w) (upFrom 0 (eventStates o))

@@ -20,6 +20,8 @@ counted s = (s .0, (s .1 .plain, s .1 .undetected))
 
 -- an order that was read has these
 pub record Small (o : OrderRecord) : Type 0 where
+  pub some-version : 1 ≤ o .version
+  pub known-version : o .version ≤ 2
   pub two-generators : 2 ≤ o .n
   pub four-generators : o .n ≤ 4
   pub some-weight : 1 ≤ o .d

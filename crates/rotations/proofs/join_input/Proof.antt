@@ -3,7 +3,7 @@
 use native.Mathlib.Omega.{arith}
 use borrow.Author.Needs.{needs}
 use Rattle.poly.proofs.Shifts.{up-high-fits}
-use Rattle.rotations.proofs.Joining.{joined-first, low-fits, joined-low, high-fits, joined-high}
+use Rattle.rotations.proofs.Joining.{joined-first, low-fits, joined-low, above-fits, joined-above}
 use Rattle.rotations.proofs.join_input.Statement.{statement}
 use Rattle.rotations.proofs.join_input.Tie as tie
 
@@ -36,17 +36,16 @@ returns-2 c =
     joined-low _ _ _ _ _ (omega arith) (p .below) (p .fits)
 
 shl-t12 : tie.Need-shl-t12
-shl-t12 c = search needs
+shl-t12 c = omega arith
 
 add-t13 : tie.Need-add-t13
 add-t13 c =
-    let p = c .before .before .before .before .pre in
-    record { fits = high-fits _ _ _ _ _ (omega arith) (p .near) (p .fits) (p .below) }
+    let start = c .before .before .before .before in
+    let p = start .pre in
+    record { fits = above-fits _ _ _ _ _ (omega arith) (p .fits) (omega arith) (p .below) }
 
 returns-3 : tie.Need-returns-3
-returns-3 c =
-    let p = c .before .before .before .before .pre in
-    joined-high _ _ _ _ _ (omega arith) (p .near) (p .fits)
+returns-3 c = joined-above _ _ _ _ _ (omega arith) (c .before .before .before .before .pre .fits)
 
 pub join-input-spec : {M : Type 1} → statement M
 join-input-spec =

@@ -2,11 +2,11 @@
 -- are looked at. (A model: what the code computes.)
 -- Assumes nothing.
 use Prim.Native.Nat.{ℕ, _+_, _*_, _/_, _%_, _^_, _≤_, _<_}
+use mathlib.Core.Logic.{_≢_}
 use mathlib.Core.Bool.{cond}
 use mathlib.Core.List.{List, [], _∷_}
 use lib.Dec.{ltb}
 use lib.ListN.{length, set}
-use Rattle.code.specs.Model.Steps.{ShortWord}
 use Rattle.paths.specs.Paths.{pathRoom}
 
 -- the table with word u at place `at`
@@ -21,13 +21,18 @@ unfoldable pub puts : List ℕ → List ℕ × ℕ → List ℕ × ℕ
 puts [] s = s
 puts (u ∷ us) s = puts us (put u s)
 
+-- a word that is emitted once is not turned; any other has at most 128 bits
+abbrev pub ShortToTurn : ℕ → ℕ → Type 0
+ShortToTurn first bits = first ≢ 1 → bits ≤ 128
+
 -- what is asked to append a word's rotations to a table of so many numbers
-pub record ToPushTurns (size at bits u : ℕ) : Type 0 where
+pub record ToPushTurns (size at bits first u : ℕ) : Type 0 where
   pub near : at ≤ pathRoom size + 1
-  pub word : ShortWord bits u
+  pub some-bits : 0 < bits
+  pub fits : u < 2 ^ bits
+  pub short-to-turn : ShortToTurn first bits
 
 -- and to set an input above the inputs before it, so many places up
 pub record ToJoinInput (before input place : ℕ) : Type 0 where
-  pub near : place < 128
   pub below : before < 2 ^ place
   pub fits : input * 2 ^ place < 2 ^ 128

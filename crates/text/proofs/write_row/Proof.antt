@@ -23,7 +23,7 @@ Accepted s =
     RowAccepted (a .o .n) (a .o .d) (length (a .plain .now)) (length (a .undetected .now)) (length (a .buffer .now))
 
 accepted : (c : tie.Else1) → Accepted (start c)
-accepted c = row-accepted _ _ _ _ _ _ (c .before .ask-row .ensures) (c .if1 .left)
+accepted c = row-accepted _ _ _ _ _ _ _ (c .before .ask-row .ensures) (c .if1 .left)
 
 ask-row-requires : tie.Need-ask-row-requires
 ask-row-requires c κs = search needs

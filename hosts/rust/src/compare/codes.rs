@@ -5,7 +5,7 @@ use crate::random::Random;
 use crate::tally::Tally;
 use crate::{number, size, word_answer};
 use dohvrin::calls::{self, Answer};
-use dohvrin::AnyOrder;
+use dohvrin::{AnyOrder, Link};
 use dso_ref::link::{self, Code};
 
 /// The bytes of an output before a call, and those around it.
@@ -18,6 +18,8 @@ const GUARDS: usize = 64;
 /// a call does not ask about them.
 #[derive(Clone, Copy, Debug)]
 pub struct Input {
+    /// The kind of link, or a number that is none.
+    pub version: u64,
     pub generators: [u64; 4],
     pub n: u64,
     pub v: u64,
@@ -35,9 +37,10 @@ pub struct Unasked {
 
 impl Input {
     /// A right code of these generators, no check degree, no threshold, no word.
-    pub fn of(given: &[u64], v: u64, bits: u64) -> Input {
+    pub fn of(link: Link, given: &[u64], v: u64, bits: u64) -> Input {
         let AnyOrder { n, generators, .. } = AnyOrder::new(given, v, bits, 0, 0);
         Input {
+            version: link.version(),
             generators,
             n,
             v,
@@ -51,6 +54,7 @@ impl Input {
     pub fn given(&self) -> AnyOrder {
         let Unasked { m, d } = self.unasked;
         AnyOrder {
+            version: self.version,
             n: self.n,
             v: self.v,
             bits: self.bits,
@@ -68,6 +72,7 @@ impl Input {
     /// The code as the second tool takes it.
     pub fn code(&self) -> Code<'_> {
         Code {
+            version: self.version,
             memory: size(self.v),
             length: size(self.bits),
             generators: first(&self.generators, self.n),
@@ -94,7 +99,8 @@ pub fn first(generators: &[u64; 4], n: u64) -> &[u64] {
 
 pub fn weigh(inputs: u64) -> Tally {
     let mut random = Random::new(0x3E16);
-    let mut tally = Tally::new("weigh", &[3, 4, 5, 8, 9, 16, 12]).with_kind("with m and d wrong");
+    let mut tally =
+        Tally::of_links("weigh", &[2, 3, 4, 5, 8, 9, 16, 12]).with_kind("with m and d wrong");
     for _ in 0..inputs {
         let i = draw(&mut random);
         let plain = link::weight(i.code(), i.word)
@@ -110,7 +116,7 @@ pub fn weigh(inputs: u64) -> Tally {
         if plain.is_ok() && i.wrong_degree() && i.wrong_threshold() {
             tally.count_kind();
         }
-        tally.count(expected.refusal, same, || {
+        tally.count_of(i.version, expected.refusal, same, || {
             format!("{i:?}: library {answer:?} {safe:?}, second tool {expected:?}")
         });
     }
@@ -120,7 +126,7 @@ pub fn weigh(inputs: u64) -> Tally {
 pub fn encode(inputs: u64) -> Tally {
     let mut random = Random::new(0xE4C0DE);
     let mut tally =
-        Tally::new("encode", &[3, 4, 5, 8, 9, 16, 10, 12]).with_kind("with m and d wrong");
+        Tally::of_links("encode", &[2, 3, 4, 5, 8, 9, 16, 10, 12]).with_kind("with m and d wrong");
     for _ in 0..inputs {
         let i = draw(&mut random);
         let room = draw_room(&mut random, &i);
@@ -138,7 +144,8 @@ pub fn encode(inputs: u64) -> Tally {
         };
         let (raw, safe) = (encoded(before, room, raw), encoded(before, room, safe));
         let expected = (refusal, guarded(before, &expected));
-        tally.count(refusal, raw == expected && safe == expected, || {
+        let same = raw == expected && safe == expected;
+        tally.count_of(i.version, refusal, same, || {
             format!("{i:?} room {room}: library {raw:?}, safe {safe:?}, second tool {expected:?}")
         });
     }
@@ -172,15 +179,23 @@ fn guarded(before: usize, output: &[u8]) -> Vec<u8> {
     bytes
 }
 
-/// None, one short, exact, longer, or any.
+/// None, one short, exact, longer, or any; or about what the other kind of link
+/// takes, with v steps more or fewer.
 fn draw_room(random: &mut Random, i: &Input) -> usize {
-    let exact = size(i.n.min(8) * i.bits.min(200));
-    match random.within(0, 9) {
+    let (n, v, bits) = (i.n.min(8), i.v.min(12), i.bits.min(200));
+    let [tail_biting, terminated] = Link::ALL.map(|link| size(n * link.steps(v, bits)));
+    let exact = match Link::of(i.version) {
+        Some(Link::Terminated) => terminated,
+        _ => tail_biting,
+    };
+    match random.within(0, 11) {
         0 => 0,
         1 => exact.saturating_sub(1),
         2..=5 => exact,
         6..=8 => exact + random.index(100),
-        _ => random.index(600),
+        9 => random.index(600),
+        10 => tail_biting + random.index(terminated - tail_biting + 1),
+        _ => terminated + tail_biting - exact,
     }
 }
 
@@ -219,6 +234,7 @@ pub fn right(random: &mut Random) -> Input {
     generators[..count].copy_from_slice(&generators::right(random, v, count));
     let word = random.word(bits);
     Input {
+        version: random.version(),
         generators,
         n: count as u64,
         v,
@@ -250,7 +266,10 @@ fn damaged(random: &mut Random) -> Input {
     let mut i = right(random);
     let given = size(i.n);
     let one = random.index(given);
-    match random.within(0, 9) {
+    match random.within(0, 11) {
+        10 => i.version = random.wrong_version(),
+        // The version is asked about before all else.
+        11 => (i.version, i.n) = (random.wrong_version(), random.within(0, 6)),
         0 => i.n = random.pick(&[0, 1, 5, 6]),
         1 => i.v = random.pick(&[0, 9, 10, 11, 12]),
         2 => i.bits = random.within(0, i.v - 1),
@@ -299,6 +318,7 @@ fn wild(random: &mut Random) -> Input {
         *g = random.within(0, (2 << v) + 1);
     }
     Input {
+        version: random.within(0, 3),
         generators,
         n: random.within(0, 6),
         v,

@@ -7,7 +7,7 @@ use crate::random::Random;
 use crate::tally::Tally;
 use crate::{number, size};
 use dohvrin::calls::{self, Answer};
-use dohvrin::{Event, WORK};
+use dohvrin::{Event, Link, WORK};
 use dso_ref::events;
 
 /// Entries of a table whose events the second tool lists for any order.
@@ -31,9 +31,9 @@ type Expected<'a> = Result<&'a [dso_ref::Event], u64>;
 
 /// Any inputs, right and damaged, of any length.
 pub fn collect(inputs: u64) -> Tally {
-    let mut random = Random::new(0xC011EC7);
+    let mut random = Random::new(0xC011EC8);
     let mut tally =
-        Tally::new("collect", &[3, 4, 5, 7, 8, 9, 16, 10, 13]).with_kind("with m wrong");
+        Tally::of_links("collect", &[2, 3, 4, 5, 7, 8, 9, 16, 10, 13]).with_kind("with m wrong");
     for _ in 0..inputs {
         let mut call = draw(&mut random);
         let code = call.input.code();
@@ -52,7 +52,7 @@ pub fn collect(inputs: u64) -> Tally {
 /// tables exactly full, one short, empty, larger and far larger.
 pub fn small_tables(orders: u64) -> Tally {
     let mut random = Random::new(0x5A11);
-    let mut tally = Tally::new("small event tables", &[13]);
+    let mut tally = Tally::of_links("small event tables", &[13]);
     let mut done = 0;
     while done < orders {
         let call = draw_small(&mut random);
@@ -70,20 +70,29 @@ pub fn small_tables(orders: u64) -> Tally {
 /// The large orders, whose numbers of events are stored here, each with tables
 /// exactly full and one short.
 pub fn large_tables(_: u64) -> Tally {
-    let mut tally = Tally::new("large event tables", &[13]);
-    large(&mut tally, &[0o13, 0o17], 3, 70, 18, 15_852);
-    large(&mut tally, &[0o133, 0o171], 6, 70, 14, 6_903);
-    large(&mut tally, &[0o133, 0o171, 0o165], 6, 64, 24, 19_301);
+    let mut tally = Tally::of_links("large event tables", &[13]);
+    let mut both = |generators: &[u64], v, bits, d, events: [usize; 2]| {
+        for (link, events) in Link::ALL.into_iter().zip(events) {
+            large(&mut tally, Input::of(link, generators, v, bits), d, events);
+        }
+    };
+    both(&[0o13, 0o17], 3, 70, 18, [15_852, 11_561]);
+    both(&[0o133, 0o171], 6, 70, 14, [6_903, 50]);
+    both(&[0o133, 0o171, 0o165], 6, 64, 24, [19_301, 201]);
     // 1.5 billion walks without a cut: this list is the second tool's own cut one.
-    large(&mut tally, &[0o561, 0o753], 8, 76, 21, 5_079_947);
+    both(&[0o561, 0o753], 8, 76, 21, [5_079_947, 11_617]);
+    // Some have all 136 steps.
+    let generators = &[0o401, 0o401, 0o401, 1];
+    let longest = Input::of(Link::Terminated, generators, 8, 128);
+    large(&mut tally, longest, 30, 84_199);
     tally
 }
 
 /// The second tool's list must have the stored number of events, each of them
 /// walked once more, once and in order.
-fn large(tally: &mut Tally, generators: &[u64], v: u64, bits: u64, d: u64, events: usize) {
+fn large(tally: &mut Tally, input: Input, d: u64, events: usize) {
     let call = Call {
-        input: Input::of(generators, v, bits),
+        input,
         d,
         entries: 0,
         work: WORK,
@@ -122,7 +131,7 @@ fn compare(tally: &mut Tally, call: &Call, expected: Expected) {
     let (safe, safe_left) = Lent::new(call).safe(call, expected);
     let plain = expected.map(<[_]>::len);
     let same = raw == answer && safe == plain && raw_left && safe_left;
-    tally.count(refusal, same, || {
+    tally.count_of(call.input.version, refusal, same, || {
         format!(
             "{call:?}: library {raw:?} {safe:?}, second tool {answer:?}, \
              memory as it should be: {raw_left} {safe_left}"

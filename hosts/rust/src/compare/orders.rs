@@ -15,7 +15,7 @@ const SHORT: usize = 10;
 pub fn orders(inputs: u64) -> Tally {
     let mut random = Random::new(0x08DE85);
     let asked = &[1, 2, 3, 4, 5, 6, 7, 8, 9, 16, 13, 14, 15];
-    let mut tally = Tally::new("orders by record", asked);
+    let mut tally = Tally::of_links("orders by record", asked);
     // The same for every order in turn: they hold what the last one left.
     let mut tables = lend(Lent::default());
     for _ in 0..inputs {
@@ -24,7 +24,8 @@ pub fn orders(inputs: u64) -> Tally {
         let bytes = &bytes[..size];
         let (refusal, expected) = second(bytes);
         let text = answer(&mut tables, bytes, None);
-        tally.count(refusal, text == expected, || {
+        let version = records::version_in(bytes);
+        tally.count_of(version, refusal, text == expected, || {
             let shown = &bytes[..size.min(40)];
             format!("{shown:02X?} of {size}: library {text:?}, second tool {expected:?}")
         });

@@ -9,11 +9,22 @@ use crate::random::Random;
 use crate::tally::Tally;
 use crate::{number, size};
 use dohvrin::calls::{self, Listing};
-use dohvrin::{Event, Listed, WORK};
+use dohvrin::{Event, Link, Listed, WORK};
 use dso_ref::{events, link, listing};
 
 /// Events and paths of an order of any length whose whole tables are compared.
 const MANY: usize = 1 << 17;
+
+/// Events and paths of 13, 17, N = 70, d = 18 on either kind of link.
+pub const TABLE_1: [(Link, usize, usize); 2] = [
+    (Link::TailBiting, 15_852, 1_940_785),
+    (Link::Terminated, 11_561, 1_627_283),
+];
+/// Those of 561, 753, N = 76, d = 21.
+pub const TABLE_2: [(Link, usize, usize); 2] = [
+    (Link::TailBiting, 5_079_947, 882_816),
+    (Link::Terminated, 11_617, 673_899),
+];
 
 /// One call: the code, the threshold, and the sizes of what is lent.
 #[derive(Clone, Copy, Debug)]
@@ -30,7 +41,7 @@ type Expected<'a> = Result<&'a Tables, u64>;
 pub fn list(inputs: u64) -> Tally {
     let mut random = Random::new(0x115794);
     let mut tally =
-        Tally::new("list", &[3, 4, 5, 7, 8, 9, 16, 10, 13, 14]).with_kind("with m wrong");
+        Tally::of_links("list", &[2, 3, 4, 5, 7, 8, 9, 16, 10, 13, 14]).with_kind("with m wrong");
     for _ in 0..inputs {
         let (input, d, lent) = draw(&mut random);
         let mut call = Call { input, d, lent };
@@ -71,7 +82,8 @@ pub fn list(inputs: u64) -> Tally {
 /// each with tables exactly full, one short, empty, odd, larger, far larger.
 pub fn small_tables(orders: u64) -> Tally {
     let mut random = Random::new(0x5A11A);
-    let mut tally = Tally::new("small path tables", &[10, 13, 14]).with_kind("orders of N = v");
+    let mut tally =
+        Tally::of_links("small path tables", &[10, 13, 14]).with_kind("orders of N = v");
     for order in 0..orders {
         // Of the longest words there are a great many.
         let most = if order % 100 == 99 {
@@ -95,11 +107,16 @@ pub fn small_tables(orders: u64) -> Tally {
 /// counted them, where they are few enough for that.
 pub fn long_tables(orders: u64) -> Tally {
     let mut random = Random::new(0x107611);
-    let mut tally = Tally::new("long path tables", &[14]);
+    let mut tally = Tally::of_links("long path tables", &[14]);
     let mut done = 0;
     while done < orders {
         let mut input = codes::right(&mut random);
-        input.bits = random.within(listing::LONGEST as u64 + 1, 128);
+        input.version = Link::ALL[done as usize % 2].version();
+        input.bits = match random.within(0, 3) {
+            // The longest walks: words past 128 steps.
+            0 => 128,
+            _ => random.within(listing::LONGEST as u64 + 1, 128),
+        };
         let d = random.within(4, 24);
         let code = input.code();
         let events = events::collect(code, size(d), MANY, WORK).unwrap_or_default();
@@ -120,30 +137,27 @@ pub fn long_tables(orders: u64) -> Tally {
 /// The large orders, whose numbers of paths are stored here, with tables
 /// exactly full, and in turn one path and one event short.
 pub fn large_tables(_: u64) -> Tally {
-    let mut tally = Tally::new("large path tables", &[13, 14]);
-    let tables = large(
-        &mut tally,
-        Input::of(&[0o13, 0o17], 3, 70),
-        18,
-        15_852,
-        1_940_785,
-    );
-    let full = tables.sizes();
-    compare_listed(&mut tally, &tables, full.with_paths(full.paths - 2));
-    let tables = large(
-        &mut tally,
-        Input::of(&[0o561, 0o753], 8, 76),
-        21,
-        5_079_947,
-        882_816,
-    );
-    let full = tables.sizes();
-    compare_listed(&mut tally, &tables, full.with_events(full.events - 1));
+    let mut tally = Tally::of_links("large path tables", &[13, 14]);
+    for (link, events, paths) in TABLE_1 {
+        let input = Input::of(link, &[0o13, 0o17], 3, 70);
+        let tables = large(&mut tally, input, 18, events, paths);
+        let full = tables.sizes();
+        compare_listed(&mut tally, &tables, full.with_paths(full.paths - 2));
+    }
+    for (link, events, paths) in TABLE_2 {
+        let input = Input::of(link, &[0o561, 0o753], 8, 76);
+        let tables = large(&mut tally, input, 21, events, paths);
+        let full = tables.sizes();
+        compare_listed(&mut tally, &tables, full.with_events(full.events - 1));
+    }
+    // Walks of 136 steps.
+    let longest = Input::of(Link::Terminated, &[0o561, 0o753], 8, 128);
+    large(&mut tally, longest, 19, 1_978, 224_239);
     tally
 }
 
 /// The second tool's list must have the stored number of paths, each of them
-/// weighed by cyclic products, once and in order, and its table's counts. The
+/// weighed by products, once and in order, and its table's counts. The
 /// events are those that `collect` leaves, which are compared where it is.
 fn large(tally: &mut Tally, input: Input, d: u64, events: usize, paths: usize) -> Tables {
     let code = input.code();
@@ -183,7 +197,7 @@ fn compare(tally: &mut Tally, call: &Call, expected: Expected) {
     let (raw, raw_left) = Lent::new(call.lent).raw(call, expected);
     let (safe, safe_left) = Lent::new(call.lent).safe(call, expected);
     let same = raw == answer && safe == plain && raw_left && safe_left;
-    tally.count(refusal, same, || {
+    tally.count_of(call.input.version, refusal, same, || {
         format!(
             "{call:?}: library {raw:?} {safe:?}, second tool {answer:?}, \
              memory as it should be: {raw_left} {safe_left}"

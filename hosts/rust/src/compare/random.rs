@@ -1,6 +1,8 @@
 //! Numbers that look random and come out the same in every run (splitmix64),
 //! and the values that every family draws.
 
+use dohvrin::Link;
+
 pub struct Random(u64);
 
 impl Random {
@@ -36,6 +38,27 @@ impl Random {
 
     pub fn byte(&mut self) -> u8 {
         self.next() as u8
+    }
+
+    /// The version of either kind of link.
+    pub fn version(&mut self) -> u64 {
+        Link::ALL[self.index(2)].version()
+    }
+
+    /// A version of no kind: beside the right ones, the greatest of a byte, or
+    /// far too large, with a right one in its low bits or not.
+    pub fn wrong_version(&mut self) -> u64 {
+        match self.within(0, 2) {
+            0 => self.pick(&[0, 3]),
+            1 => self.pick(&[4, 127, 128, 255, 256 | 1, 256 | 2]),
+            _ => loop {
+                let right = self.version();
+                let version = self.huge(right);
+                if Link::of(version).is_none() {
+                    break version;
+                }
+            },
+        }
     }
 
     /// A length from `least` to 128, often at an edge of the halves.

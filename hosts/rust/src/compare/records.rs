@@ -6,12 +6,13 @@ use crate::random::Random;
 use crate::tally::Tally;
 use dohvrin::calls::{self, OrderAnswer};
 use dohvrin::AnyOrder;
+use dso_ref::link::Kind;
 use dso_ref::order::record_bytes;
 use dso_ref::Order;
 
 pub fn read_order(inputs: u64) -> Tally {
     let mut random = Random::new(0x0DE8);
-    let mut tally = Tally::new("read_order", &[1, 2, 3, 4, 5, 6, 7, 8, 9, 16]);
+    let mut tally = Tally::of_links("read_order", &[1, 2, 3, 4, 5, 6, 7, 8, 9, 16]);
     for _ in 0..inputs {
         let bytes = right(&mut random);
         let (bytes, size) = damaged(&mut random, bytes);
@@ -20,12 +21,17 @@ pub fn read_order(inputs: u64) -> Tally {
         let answer = calls::read_order(&bytes[..size]);
         let safe = dohvrin::Order::from_record(&bytes[..size]).map_err(|no| no.number());
         let same = answer == expected && safe == plain.map(order_of);
-        tally.count(expected.refusal, same, || {
+        tally.count_of(version_in(&bytes[..size]), expected.refusal, same, || {
             let shown = &bytes[..size.min(40)];
             format!("{shown:02X?} of {size}: library {answer:?} {safe:?}, second tool {expected:?}")
         });
     }
     tally
+}
+
+/// The version in a record that is long enough.
+pub fn version_in(bytes: &[u8]) -> u64 {
+    bytes.get(2).copied().unwrap_or(0).into()
 }
 
 fn answer_of(plain: &Result<Order, u64>) -> OrderAnswer {
@@ -46,18 +52,21 @@ fn answer_of(plain: &Result<Order, u64>) -> OrderAnswer {
 
 /// Generators past the n-th are 0.
 fn any_of(order: &Order) -> AnyOrder {
-    AnyOrder::new(
+    let any = AnyOrder::new(
         order.generators(),
         order.memory() as u64,
         order.length() as u64,
         order.degree() as u64,
         order.threshold() as u64,
-    )
+    );
+    AnyOrder {
+        version: order.kind().version(),
+        ..any
+    }
 }
 
 fn order_of(order: Order) -> dohvrin::Order {
-    let AnyOrder { v, bits, m, d, .. } = any_of(&order);
-    dohvrin::Order::new(order.generators(), v, bits, m, d).expect("both accept it")
+    dohvrin::Order::of(any_of(&order)).expect("both accept it")
 }
 
 /// A right record or what became of it, and how many of the bytes are given;
@@ -94,7 +103,7 @@ pub fn damaged(random: &mut Random, mut bytes: Vec<u8>) -> (Vec<u8>, usize) {
             size = bytes.len();
             set_length(&mut bytes, size);
         }
-        15 => bytes[2] = random.byte(),
+        15 => set_version(random, &mut bytes),
         16 => bytes[3] = random.within(0, 6) as u8,
         17 => bytes[4] = random.within(0, 12) as u8,
         18 => bytes[5] = random.within(0, 200) as u8,
@@ -111,13 +120,24 @@ pub fn damaged(random: &mut Random, mut bytes: Vec<u8>) -> (Vec<u8>, usize) {
     (bytes, size)
 }
 
-/// Any bytes, every other time with the length and the version that are right.
+/// A version of no kind, or any, every other time with an n that is wrong too.
+fn set_version(random: &mut Random, bytes: &mut [u8]) {
+    bytes[2] = match random.coin() {
+        true => random.wrong_version() as u8,
+        false => random.byte(),
+    };
+    if random.coin() {
+        bytes[3] = random.within(0, 6) as u8;
+    }
+}
+
+/// Any bytes, every other time with the length and a version that are right.
 fn any_bytes(random: &mut Random) -> Vec<u8> {
     let mut bytes: Vec<u8> = (0..random.index(40)).map(|_| random.byte()).collect();
     let size = bytes.len();
     if size > 2 && random.coin() {
         set_length(&mut bytes, size);
-        bytes[2] = 1;
+        bytes[2] = random.version() as u8;
     }
     bytes
 }
@@ -130,14 +150,15 @@ fn right(random: &mut Random) -> Vec<u8> {
     record(random, [v, length, m, d])
 }
 
-/// The record of v, N, m and d with any right generators.
+/// The record of v, N, m and d, of either kind, with any right generators.
 pub fn record(random: &mut Random, numbers: [u64; 4]) -> Vec<u8> {
     let [v, length, m, d] = numbers;
     let n = 2 + random.index(3);
     let generators = generators::right(random, v, n);
     let generators: Vec<u16> = generators.into_iter().map(|g| g as u16).collect();
     let numbers = [n as u8, v as u8, length as u8, m as u8, d as u8];
-    record_bytes(numbers, &generators).expect("at most 4 generators")
+    let kind = Kind::ALL[random.index(2)];
+    record_bytes(kind, numbers, &generators).expect("at most 4 generators")
 }
 
 /// Generators with a common divisor in a right record.

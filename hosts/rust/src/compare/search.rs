@@ -5,12 +5,13 @@
 use crate::codes::{self, Input};
 use crate::guards::entry_of;
 use crate::listed::{any_tables, draw_size, draw_small, Tables, EVENTS, PATHS};
+use crate::paths::{TABLE_1, TABLE_2};
 use crate::random::Random;
 use crate::searched::{compare, draw, draw_polynomial, draw_sizes, full, within, Call};
 use crate::searched::{right_polynomial, wrong_polynomial};
 use crate::tally::Tally;
 use crate::{number, size};
-use dohvrin::{Event, Listed, WORK};
+use dohvrin::{Event, Link, Listed, WORK};
 use dso_ref::search::Counter;
 use dso_ref::table::Table;
 use dso_ref::words::Words;
@@ -24,13 +25,13 @@ const LONG_TABLES: usize = 1 << 15;
 
 /// Any orders, right and damaged, of any length.
 pub fn search(inputs: u64) -> Tally {
-    let tally = Tally::new("search", &[3, 4, 5, 6, 7, 8, 9, 16, 10, 13, 14, 15]);
+    let tally = Tally::of_links("search", &[2, 3, 4, 5, 6, 7, 8, 9, 16, 10, 13, 14, 15]);
     any(inputs, tally, 0x5EA8C4, |_, _| None)
 }
 
 /// The same for the counts of any polynomial, right or damaged.
 pub fn count(inputs: u64) -> Tally {
-    let tally = Tally::new("count", &[3, 4, 5, 6, 7, 8, 9, 16, 10, 11, 13, 14]);
+    let tally = Tally::of_links("count", &[2, 3, 4, 5, 6, 7, 8, 9, 16, 10, 11, 13, 14]);
     any(inputs, tally, 0xC0147, |random, m| {
         Some(draw_polynomial(random, m))
     })
@@ -87,8 +88,8 @@ fn any(
 /// one short, empty, odd, larger, far larger.
 pub fn small_tables(orders: u64) -> Tally {
     let mut random = Random::new(0x5A11C);
-    let mut tally =
-        Tally::new("small searches and counts", &[10, 11, 13, 14, 15]).with_kind("orders of N = v");
+    let mut tally = Tally::of_links("small searches and counts", &[10, 11, 13, 14, 15])
+        .with_kind("orders of N = v");
     let mut done = 0;
     while done < orders {
         // Of the longest words there are a great many.
@@ -135,11 +136,12 @@ pub fn small_tables(orders: u64) -> Tally {
 
 /// Longer words, which the second tool counts by its table for every candidate.
 pub fn long_tables(orders: u64) -> Tally {
-    let mut random = Random::new(7);
-    let mut tally = Tally::new("long searches and counts", &[13, 14, 15]);
+    let mut random = Random::new(11);
+    let mut tally = Tally::of_links("long searches and counts", &[13, 14, 15]);
     let mut done = 0;
     while done < orders {
         let mut input = codes::right(&mut random);
+        input.version = Link::ALL[done as usize % 2].version();
         input.bits = random.within(19, 128);
         let d = random.within(4, 20);
         // Each state is a table of its own for each candidate.
@@ -178,10 +180,16 @@ pub fn long_tables(orders: u64) -> Tally {
 /// of the second tool's search; its table counts for each of them. The tables
 /// are those that `list` leaves, which are compared where it is.
 pub fn large_tables(_: u64) -> Tally {
-    let mut tally = Tally::new("large searches", &[]);
-    let tables = listed(Input::of(&[0o13, 0o17], 3, 70), 18, 15_852, 1_940_785);
-    large(&mut tally, &tables, 6, 18, 0x63);
-    let tables = listed(Input::of(&[0o561, 0o753], 8, 76), 21, 5_079_947, 882_816);
+    let mut tally = Tally::of_links("large searches", &[]);
+    for ((link, events, paths), polynomial) in TABLE_1.into_iter().zip([0x63, 0x43]) {
+        let input = Input::of(link, &[0o13, 0o17], 3, 70);
+        let tables = listed(input, 18, events, paths);
+        large(&mut tally, &tables, 6, 18, polynomial);
+    }
+    // The terminated one has no best polynomial: 89 detect all.
+    let (link, events, paths) = TABLE_2[0];
+    let input = Input::of(link, &[0o561, 0o753], 8, 76);
+    let tables = listed(input, 21, events, paths);
     large(&mut tally, &tables, 12, 21, 0x1565);
     tally
 }

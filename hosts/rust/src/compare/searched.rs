@@ -53,9 +53,7 @@ impl Call {
             }
             Ok::<_, Refusal>(order)
         };
-        Order::new(code.memory, code.length, m, d, code.generators)
-            .and_then(asked)
-            .map_err(number)
+        Order::new(code, m, d).and_then(asked).map_err(number)
     }
 
     /// The best counts, or those of the call's polynomial.
@@ -99,7 +97,7 @@ pub fn compare(tally: &mut Tally, call: &Call, expected: Expected) {
     let (raw, raw_left) = Lent::new(call.lent).raw(call, expected);
     let (safe, safe_left) = Lent::new(call.lent).safe(call, expected);
     let same = raw == answer && safe == plain && raw_left && safe_left;
-    tally.count(answer.refusal, same, || {
+    tally.count_of(call.input.version, answer.refusal, same, || {
         format!(
             "{call:?}: library {raw:?} {safe:?}, second tool {answer:?}, \
              memory as it should be: {raw_left} {safe_left}"

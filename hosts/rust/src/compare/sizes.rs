@@ -6,7 +6,7 @@ use crate::listed::draw_small;
 use crate::random::Random;
 use crate::size;
 use crate::tally::Tally;
-use dohvrin::{Entries, Event, Listed, Order, Refusal, WORK};
+use dohvrin::{AnyOrder, Entries, Event, Listed, Order, Refusal, WORK};
 
 /// The bytes of both tables of an order of longer words, at most.
 const LONG_TABLES: usize = 1 << 20;
@@ -15,7 +15,8 @@ const LONG_TABLES: usize = 1 << 20;
 /// and one path short.
 pub fn counted(orders: u64) -> Tally {
     let mut random = Random::new(0xC0947ED);
-    let mut tally = Tally::new("sizes counted before", &[13, 14]).with_kind("of orders of N = v");
+    let mut tally =
+        Tally::of_links("sizes counted before", &[13, 14]).with_kind("of orders of N = v");
     let mut done = 0;
     while done < orders {
         let (input, d) = match done % 16 {
@@ -40,7 +41,11 @@ fn draw_long(random: &mut Random) -> (Input, u64) {
 
 /// The count, where the code has an order: words of one bit have no check.
 fn needed(input: &Input, d: u64) -> Option<Entries> {
-    let order = Order::new(input.code().generators, input.v, input.bits, 1, d).ok()?;
+    let order = Order::of(AnyOrder {
+        m: 1,
+        ..input.below(d)
+    })
+    .ok()?;
     Some(Entries::needed(&order))
 }
 
@@ -56,14 +61,15 @@ fn compare(tally: &mut Tally, input: &Input, d: u64, needed: Entries) {
         tally.count_kind();
     }
     let all = Ok(Listed { events, paths });
-    tally.count(0, listed == all, || told(input, d, needed, listed));
+    let version = input.version;
+    tally.count_of(version, 0, listed == all, || told(input, d, needed, listed));
     let short = list(input, d, events.saturating_sub(1), paths);
     let no = Err(Refusal::Events);
-    tally.count(13, short == no, || told(input, d, needed, short));
+    tally.count_of(version, 13, short == no, || told(input, d, needed, short));
     if paths > 0 {
         let short = list(input, d, events, paths - 1);
         let no = Err(Refusal::Paths);
-        tally.count(14, short == no, || told(input, d, needed, short));
+        tally.count_of(version, 14, short == no, || told(input, d, needed, short));
     }
 }
 

@@ -34,13 +34,14 @@ impl Input {
         }
     }
 
-    /// The text, after questions 3, 7 and 10.
+    /// The text, after questions 2, 3, 7 and 10.
     fn text(&self, room: usize) -> Result<String, u64> {
         let AnyOrder { v, bits, m, d, .. } = self.order;
         let numbers = [v, bits, m, d].map(size);
         let d = size(d);
         let generators = first(&self.order.generators, self.order.n);
         let [events, paths, polynomial] = self.found;
+        questions::kind(self.order.version).map_err(number)?;
         questions::generator_count(generators.len()).map_err(number)?;
         questions::threshold(d).map_err(number)?;
         if self.plain.len() < d || self.undetected.len() < d || room < TEXT {
@@ -62,7 +63,7 @@ impl Input {
 
 pub fn row_text(inputs: u64) -> Tally {
     let mut random = Random::new(0x804);
-    let mut tally = Tally::new("row_text", &[3, 7, 10]);
+    let mut tally = Tally::of_links("row_text", &[2, 3, 7, 10]);
     for _ in 0..inputs {
         let i = draw(&mut random);
         let room = draw_room(&mut random);
@@ -71,7 +72,10 @@ pub fn row_text(inputs: u64) -> Tally {
         let (plain, undetected) = (&i.plain, &i.undetected);
         let raw = |text: &mut [u8]| calls::row_text(order, found, plain, undetected, text);
         let safe = |text: &mut [u8]| dohvrin::row_text(order, found, plain, undetected, text);
-        compare(&mut tally, room, expected, raw, safe, || format!("{i:?}"));
+        let version = i.order.version;
+        compare(&mut tally, version, room, expected, raw, safe, || {
+            format!("{i:?}")
+        });
     }
     tally
 }
@@ -96,7 +100,7 @@ pub fn refusal_text(inputs: u64) -> Tally {
         }
         let raw = |text: &mut [u8]| calls::refusal_text(no, left, text);
         let safe = |text: &mut [u8]| dohvrin::refusal_text(no, left, text);
-        compare(&mut tally, room, expected, raw, safe, || {
+        compare(&mut tally, 0, room, expected, raw, safe, || {
             format!("{no} {left}")
         });
     }
@@ -113,9 +117,11 @@ fn refusal_line(no: u64, left: u64) -> String {
 }
 
 /// The call as C sees it and the safe function, each with a buffer of so many
-/// bytes among guards: both give the text's size and leave the text and zeros.
+/// bytes among guards: both give the text's size and leave the text and zeros. The
+/// version is that of the order, where there is one.
 fn compare(
     tally: &mut Tally,
+    version: u64,
     room: usize,
     expected: Result<String, u64>,
     raw: impl Fn(&mut [u8]) -> Answer,
@@ -144,7 +150,7 @@ fn compare(
         && bytes == left
         && safe == expected.as_ref().map(String::len).map_err(|no| *no)
         && again == left;
-    tally.count(refusal, same, || {
+    tally.count_of(version, refusal, same, || {
         let text = String::from_utf8_lossy(&bytes[before..before + length.min(room)]);
         let input = tell();
         format!("{input} room {room}: library {got:?} {safe:?} {text:?}, second tool {expected:?}")
@@ -162,6 +168,10 @@ fn draw(random: &mut Random) -> Input {
         0 => random.within(0, 7),
         1 => random.huge(2),
         _ => random.within(2, 4),
+    };
+    let version = match random.within(0, 15) {
+        0 => random.wrong_version(),
+        _ => random.version(),
     };
     let number = match random.within(0, 15) {
         0 => |_: &mut Random| u64::MAX,
@@ -183,6 +193,7 @@ fn draw(random: &mut Random) -> Input {
     let (plain, undetected) = (counts(random), counts(random));
     Input {
         order: AnyOrder {
+            version,
             n,
             v: number(random),
             bits: number(random),

@@ -3,7 +3,7 @@
 use crate::desk::Desk;
 use crate::memory::Memory;
 use crate::numbers::{digits, Numbers};
-use dohvrin::Entries;
+use dohvrin::{Entries, Link};
 use std::thread;
 
 /// What `--help` prints.
@@ -38,6 +38,8 @@ pub struct Args {
     /// The polynomial whose counts are wanted, rather than the search.
     pub of: Option<u64>,
     pub json: bool,
+    /// The kind of link of an order that does not say it.
+    pub link: Link,
     /// How many orders of a file are worked on at a time.
     pub jobs: usize,
     /// MiB that event and path tables may have.
@@ -61,6 +63,7 @@ impl Args {
 struct Options {
     help: bool,
     json: bool,
+    terminated: bool,
     of: Option<u64>,
     jobs: Option<usize>,
     memory: Option<usize>,
@@ -106,6 +109,7 @@ pub fn read(arguments: impl Iterator<Item = String>) -> Result<Args, String> {
     Ok(Args {
         of: options.of,
         json: options.json,
+        link: options.link(),
         jobs: options.jobs()?,
         memory: options.memory.unwrap_or(MEMORY),
         entries: options.entries()?,
@@ -126,6 +130,7 @@ impl Options {
         match option {
             "--help" => self.help = true,
             "--json" => self.json = true,
+            "--terminated" => self.terminated = true,
             "--of" => self.of = Some(polynomial(&value()?)?),
             "--jobs" => self.jobs = Some(jobs(&value()?)?),
             "--memory" => self.memory = Some(memory(&value()?)?),
@@ -167,6 +172,13 @@ impl Options {
         Ok(())
     }
 
+    fn link(&self) -> Link {
+        match self.terminated {
+            true => Link::Terminated,
+            false => Link::TailBiting,
+        }
+    }
+
     fn jobs(&self) -> Result<usize, String> {
         let of_a_file = matches!(self.other, Some(Other::List(_) | Other::Check(_)));
         match self.jobs {
@@ -194,6 +206,7 @@ impl Options {
         if self.help {
             return Ok(Task::Help);
         }
+        let source = |order| source(order, self.link());
         Ok(match self.other {
             None => Task::Row(source(order)?),
             Some(Other::Checklist) => Task::Checklist(source(order)?),
@@ -213,12 +226,13 @@ fn no_order(order: &[String], task: Task) -> Result<Task, String> {
     }
 }
 
-fn source(order: &[String]) -> Result<Source, String> {
+fn source(order: &[String], link: Link) -> Result<Source, String> {
     let words: Vec<&str> = order.iter().map(String::as_str).collect();
-    match words[..] {
-        ["-"] => Ok(Source::Input),
-        [] => Err("an order is missing (see --help)".to_string()),
-        _ => Numbers::read(&words).map(Source::Numbers),
+    match (&words[..], link) {
+        (["-"], Link::TailBiting) => Ok(Source::Input),
+        (["-"], _) => Err("--terminated: a record says it by its version".to_string()),
+        ([], _) => Err("an order is missing (see --help)".to_string()),
+        _ => Numbers::read(&words, link).map(Source::Numbers),
     }
 }
 

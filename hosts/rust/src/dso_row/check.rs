@@ -3,8 +3,9 @@
 use crate::args::Args;
 use crate::desk::Desk;
 use crate::jobs::{self, Notes};
-use crate::numbers::Numbers;
+use crate::numbers::{kind_of, Numbers};
 use crate::{put, text_of, Stop};
+use dohvrin::Link;
 
 /// Writes a line for each row of a file, in their order.
 pub fn write(file: &str, args: &Args) -> Result<(), Stop> {
@@ -14,10 +15,10 @@ pub fn write(file: &str, args: &Args) -> Result<(), Stop> {
     if rows.is_empty() {
         return Err(wrong("no row in it".to_string()));
     }
-    let (desk, checked) = (args.desk(), rows.len());
+    let (desk, link, checked) = (args.desk(), args.link, rows.len());
     let (mut at, mut differ) = (0, 0);
     let compare = move |row: &Vec<String>, notes: Notes| {
-        let difference = difference(row, &desk, notes);
+        let difference = difference(row, link, &desk, notes);
         (row[0].trim().to_string(), difference)
     };
     jobs::run(rows, args.jobs, compare, |(order, difference)| {
@@ -34,12 +35,13 @@ pub fn write(file: &str, args: &Args) -> Result<(), Stop> {
     }
 }
 
-/// The rows of a text: each begins at an ORDER line. Empty lines are passed
-/// over; the error is a line that stands before the first ORDER line.
+/// The rows of a text: each begins at an ORDER line, before which the kind of
+/// link may have been written. Empty lines are passed over; the error is a line
+/// that stands before the first ORDER line.
 fn rows(text: &str) -> Result<Vec<Vec<String>>, String> {
     let mut rows: Vec<Vec<String>> = Vec::new();
     for line in text.split('\n').filter(|line| !line.trim().is_empty()) {
-        if line.split_whitespace().next() == Some("ORDER") {
+        if without_kind(line).split_whitespace().next() == Some("ORDER") {
             rows.push(Vec::new());
         }
         match rows.last_mut() {
@@ -50,14 +52,37 @@ fn rows(text: &str) -> Result<Vec<Vec<String>>, String> {
     Ok(rows)
 }
 
-/// How a printed row differs from what is computed now.
-fn difference(row: &[String], desk: &Desk, notes: Notes) -> Option<String> {
-    let numbers = match Numbers::read_line(&row[0]) {
+/// The line without a kind of link at its beginning.
+fn without_kind(line: &str) -> &str {
+    match line.split_once(' ') {
+        Some((word, rest)) if kind_of(word).is_some() => rest,
+        _ => line,
+    }
+}
+
+/// How a printed row differs from what is computed now. A row does not say the
+/// kind of its link: one that holds for the other kind is told as that.
+fn difference(row: &[String], link: Link, desk: &Desk, notes: Notes) -> Option<String> {
+    let numbers = match Numbers::read_line(&row[0], link) {
         Ok(numbers) => numbers,
         Err(message) => return Some(format!("it is no order: {message}")),
     };
-    let row: Vec<&str> = row.iter().map(String::as_str).collect();
-    let now = desk.lines(&numbers, notes);
+    let mut row: Vec<&str> = row.iter().map(String::as_str).collect();
+    row[0] = without_kind(row[0]);
+    let how = unlike(&row, &desk.lines(&numbers, notes))?;
+    let other = numbers.for_other_link();
+    let hint = match unlike(&row, &desk.lines(&other, notes)) {
+        None => format!(
+            "; it is the row of a {} link (see --terminated)",
+            other.link()
+        ),
+        Some(_) => String::new(),
+    };
+    Some(how + &hint)
+}
+
+/// The first line in which a row differs from these lines.
+fn unlike(row: &[&str], now: &str) -> Option<String> {
     let now: Vec<&str> = now.lines().collect();
     let at = (0..row.len().max(now.len())).find(|&at| row.get(at) != now.get(at))?;
     let shown =

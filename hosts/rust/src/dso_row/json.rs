@@ -1,11 +1,14 @@
 //! A row as JSON, made of the printed lines: no number is computed or written
-//! anew. Generators and the polynomial, which are not decimal, are text.
+//! anew. Generators and the polynomial, which are not decimal, are text. The
+//! kind of link, which the lines do not say, stands first in the order.
 
-/// One line of JSON for the lines of a row, or of a refusal.
-pub fn of(text: &str) -> String {
+use dohvrin::Link;
+
+/// One line of JSON for the lines of a row of this kind of link, or of a refusal.
+pub fn of(text: &str, link: Link) -> String {
     let lines: Vec<Vec<&str>> = text.lines().map(|l| l.split(' ').collect()).collect();
     let counts: Vec<String> = lines.iter().filter_map(|line| count(line)).collect();
-    let mut members: Vec<String> = lines.iter().filter_map(|line| member(line)).collect();
+    let mut members: Vec<String> = lines.iter().filter_map(|line| member(line, link)).collect();
     if !counts.is_empty() {
         // The polynomial stays last, as it is printed.
         members.insert(
@@ -16,13 +19,13 @@ pub fn of(text: &str) -> String {
     format!("{{{}}}\n", members.join(","))
 }
 
-fn member(line: &[&str]) -> Option<String> {
+fn member(line: &[&str], link: Link) -> Option<String> {
     Some(match line {
         ["ORDER", n, v, bits, m, d, generators @ ..] => {
             let texts: Vec<String> = generators.iter().map(|g| format!("\"{g}\"")).collect();
             let texts = texts.join(",");
             format!(
-                "\"order\":{{\"n\":{n},\"v\":{v},\"N\":{bits},\"m\":{m},\"d\":{d},\"generators\":[{texts}]}}"
+                "\"order\":{{\"link\":\"{link}\",\"n\":{n},\"v\":{v},\"N\":{bits},\"m\":{m},\"d\":{d},\"generators\":[{texts}]}}"
             )
         }
         ["EVENTS", events] => format!("\"events\":{events}"),

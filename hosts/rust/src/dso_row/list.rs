@@ -3,28 +3,32 @@
 use crate::args::Args;
 use crate::numbers::Numbers;
 use crate::{jobs, put_row, text_of, Stop};
+use dohvrin::Link;
 
 /// Writes one row after another, in the order of the file, each by one write.
 /// All lines are read before the first is made.
 pub fn write(file: &str, args: &Args) -> Result<(), Stop> {
     let wrong = |why| Stop::Arguments(format!("{file}, {why}"));
-    let orders = orders(&text_of(file)?).map_err(wrong)?;
+    let orders = orders(&text_of(file)?, args.link).map_err(wrong)?;
     if orders.is_empty() {
         return Err(wrong("no order in it".to_string()));
     }
     let desk = args.desk();
-    let lines = move |numbers: &Numbers, notes: jobs::Notes| desk.lines(numbers, notes);
-    jobs::run(orders, args.jobs, lines, |row| {
-        Ok(put_row(&row, args.json)?)
+    let lines = move |numbers: &Numbers, notes: jobs::Notes| {
+        let row = desk.lines(numbers, notes);
+        (numbers.link(), row)
+    };
+    jobs::run(orders, args.jobs, lines, |(link, row)| {
+        Ok(put_row(&row, link, args.json)?)
     })
 }
 
-/// The order of each line; empty lines and # lines are passed over. The error
-/// says in which line it is.
-fn orders(text: &str) -> Result<Vec<Numbers>, String> {
+/// The order of each line, of this kind of link where the line does not say it;
+/// empty lines and # lines are passed over. The error says in which line it is.
+fn orders(text: &str, link: Link) -> Result<Vec<Numbers>, String> {
     let lines = text.lines().zip(1..);
     lines
         .filter(|(line, _)| !line.trim().is_empty() && !line.starts_with('#'))
-        .map(|(line, at)| Numbers::read_line(line).map_err(|why| format!("line {at}: {why}")))
+        .map(|(line, at)| Numbers::read_line(line, link).map_err(|why| format!("line {at}: {why}")))
         .collect()
 }

@@ -14,7 +14,7 @@ mod progress;
 
 use args::{Args, Source, Task};
 use desk::Made;
-use dohvrin::{Order, Refusal};
+use dohvrin::{Link, Order, Refusal};
 use jobs::Note;
 use std::fs::File;
 use std::io::{self, ErrorKind, Read, Write};
@@ -51,7 +51,7 @@ fn main() -> ExitCode {
     let stop = match args::read(arguments) {
         Err(message) => Err(Stop::Arguments(message)),
         Ok(args) => match answer(&args) {
-            Err(Stop::Refused(refusal)) => refused(refusal, args.json),
+            Err(Stop::Refused(refusal)) => refused(refusal, args.link, args.json),
             other => other,
         },
     };
@@ -77,7 +77,7 @@ fn answer(args: &Args) -> Result<(), Stop> {
         Task::Help => put(args::HELP.as_bytes())?,
         Task::Row(source) => {
             let row = made(order(source)?, args)?.answer?;
-            put_row(&row.text(), args.json)?;
+            put_row(&row.text(), row.order().link(), args.json)?;
         }
         Task::Checklist(source) => sign(order(source)?, args)?,
         Task::Record(source) => put(&order(source)?.record())?,
@@ -114,8 +114,8 @@ fn made(order: Order, args: &Args) -> Result<Made, Stop> {
 fn sign(order: Order, args: &Args) -> Result<(), Stop> {
     let Made { answer, tables, .. } = made(order.clone(), args)?;
     match &answer {
-        Ok(row) => put_row(&row.text(), false)?,
-        Err(tie @ Refusal::Tie { .. }) => refused(*tie, false)?,
+        Ok(row) => put_row(&row.text(), order.link(), false)?,
+        Err(tie @ Refusal::Tie { .. }) => refused(*tie, order.link(), false)?,
         Err(refusal) => return Err(Stop::Refused(*refusal)),
     }
     let (points, right) = jobs::alone(move |notes| {
@@ -144,15 +144,16 @@ fn text_of(file: &str) -> io::Result<String> {
 }
 
 /// The line of a refusal, and on standard error what it means.
-fn refused(refusal: Refusal, json: bool) -> Result<(), Stop> {
-    put_row(&refusal.text(), json)?;
+fn refused(refusal: Refusal, link: Link, json: bool) -> Result<(), Stop> {
+    put_row(&refusal.text(), link, json)?;
     tell(&refusal.to_string());
     Ok(())
 }
 
-fn put_row(text: &str, json: bool) -> io::Result<()> {
+/// The lines of a row; those of JSON say the kind of link with the order.
+fn put_row(text: &str, link: Link, json: bool) -> io::Result<()> {
     if json {
-        put(json::of(text).as_bytes())
+        put(json::of(text, link).as_bytes())
     } else {
         put(text.as_bytes())
     }

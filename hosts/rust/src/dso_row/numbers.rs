@@ -1,6 +1,6 @@
 //! An order as it is typed or printed, whatever its numbers are.
 
-use dohvrin::{Order, Refusal};
+use dohvrin::{AnyOrder, Link, Order, Refusal};
 use std::fmt;
 
 /// The names of the numbers before the generators.
@@ -8,6 +8,7 @@ const NAMES: [&str; 5] = ["n", "v", "N", "m", "d"];
 
 #[derive(Clone, Debug, PartialEq, Eq)]
 pub struct Numbers {
+    link: Link,
     v: u64,
     bits: u64,
     m: u64,
@@ -16,9 +17,14 @@ pub struct Numbers {
 }
 
 impl Numbers {
-    /// Reads n, v, N, m, d and n generators, before which ORDER may stand. The
-    /// error names what is wrong.
-    pub fn read(words: &[&str]) -> Result<Numbers, String> {
+    /// Reads n, v, N, m, d and n generators. The kind of link may stand before
+    /// them, where it is not the one given here, and then ORDER. The error names
+    /// what is wrong.
+    pub fn read(words: &[&str], link: Link) -> Result<Numbers, String> {
+        let (link, words) = match words.split_first() {
+            Some((first, rest)) => kind_of(first).map_or((link, words), |kind| (kind, rest)),
+            None => (link, words),
+        };
         let words = words.strip_prefix(&["ORDER"]).unwrap_or(words);
         let mut numbers = [0; 5];
         for (place, name) in NAMES.iter().enumerate() {
@@ -39,6 +45,7 @@ impl Numbers {
             ));
         }
         Ok(Numbers {
+            link,
             v,
             bits,
             m,
@@ -48,17 +55,40 @@ impl Numbers {
     }
 
     /// Reads one line.
-    pub fn read_line(line: &str) -> Result<Numbers, String> {
-        Numbers::read(&line.split_whitespace().collect::<Vec<_>>())
+    pub fn read_line(line: &str, link: Link) -> Result<Numbers, String> {
+        Numbers::read(&line.split_whitespace().collect::<Vec<_>>(), link)
     }
 
     /// The order, where questions 3 to 9 and 16 accept it.
     pub fn order(&self) -> Result<Order, Refusal> {
-        Order::new(&self.generators, self.v, self.bits, self.m, self.d)
+        let any = AnyOrder::new(&self.generators, self.v, self.bits, self.m, self.d);
+        Order::of(any.with_link(self.link))
+    }
+
+    /// The kind of its link.
+    pub fn link(&self) -> Link {
+        self.link
+    }
+
+    /// The same numbers for the other kind of link.
+    pub fn for_other_link(&self) -> Numbers {
+        Numbers {
+            link: match self.link {
+                Link::TailBiting => Link::Terminated,
+                Link::Terminated => Link::TailBiting,
+            },
+            ..self.clone()
+        }
     }
 }
 
-/// The ORDER line.
+/// The kind of link that a word names.
+pub fn kind_of(word: &str) -> Option<Link> {
+    let named = |link: &Link| link.to_string() == word;
+    Link::ALL.into_iter().find(named)
+}
+
+/// The ORDER line, which has no kind of link.
 impl fmt::Display for Numbers {
     fn fmt(&self, f: &mut fmt::Formatter) -> fmt::Result {
         let n = self.generators.len();

@@ -9,6 +9,7 @@ fn help() {
     for option in [
         "--of",
         "--json",
+        "--terminated",
         "--checklist",
         "--record",
         "--file",
@@ -102,6 +103,11 @@ fn the_message_names_the_argument() {
             "--of: not together with --checklist",
         ),
         ("--file orders 2 1 4 2 6 1 3", "2: an order beside the file"),
+        (
+            "--terminated -",
+            "--terminated: a record says it by its version",
+        ),
+        ("open 2 1 4 2 6 1 3", "open: n is not a decimal number"),
     ] {
         let run = run(arguments);
         assert_eq!((run.status, run.out.as_str()), (2, ""), "{arguments}");

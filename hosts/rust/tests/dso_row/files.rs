@@ -29,7 +29,8 @@ fn a_list_as_json_and_of_one_polynomial() {
     let lines: Vec<&str> = list.lines().collect();
     assert_eq!(lines.len(), 3);
     assert!(lines[0].ends_with("\"crc\":\"0x5\"}"));
-    let order = r#""order":{"n":2,"v":1,"N":4,"m":2,"d":5,"generators":["1","3"]}"#;
+    let order =
+        r#""order":{"link":"tail-biting","n":2,"v":1,"N":4,"m":2,"d":5,"generators":["1","3"]}"#;
     assert_eq!(lines[1], format!("{{{order},\"refusal\":15,\"left\":2}}"));
     let of = run_on("--of 0x7 --file -", b"2 1 4 2 6 1 3").out;
     assert_eq!(of.lines().last(), Some("CRC 0x7"));

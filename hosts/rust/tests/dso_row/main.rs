@@ -5,3 +5,4 @@ mod checklist;
 mod files;
 mod rows;
 mod run;
+mod terminated;

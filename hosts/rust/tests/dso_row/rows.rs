@@ -68,6 +68,7 @@ fn damaged_records() {
         (&RECORD[..11], "NO 1\n"),
         (&long[..], "NO 1\n"),
         (&[0, 0], "NO 2\n"),
+        (&[0, 1, 3], "NO 2\n"),
         (&[0, 1, 1], "NO 3\n"),
     ] {
         assert_eq!(run_on("-", bytes).out, line);
@@ -94,7 +95,8 @@ fn json() {
     ]
     .map(|(w, p, u)| format!(r#"{{"weight":{w},"plain":{p},"undetected":{u}}}"#))
     .to_vec();
-    let order = r#""order":{"n":2,"v":1,"N":4,"m":2,"d":6,"generators":["1","3"]}"#;
+    let order =
+        r#""order":{"link":"tail-biting","n":2,"v":1,"N":4,"m":2,"d":6,"generators":["1","3"]}"#;
     let expected = format!(
         "{{{order},\"events\":5,\"paths\":13,\"counts\":[{}],\"crc\":\"0x5\"}}\n",
         counts.join(",")
@@ -120,31 +122,37 @@ fn a_record_and_back() {
 
 #[test]
 fn the_second_tool_prints_the_same() {
-    for order in [
-        "2 2 12 4 10 5 7",
-        "2 3 20 6 14 13 17",
-        "3 4 18 5 20 25 33 37",
-        "4 1 9 3 12 1 3 3 2",
-        "2 3 30 12 9 13 17",
-    ] {
-        let record = bytes_on(&format!("--record {order}"), b"").stdout;
-        let lent = Lent {
-            events: 1 << 20,
-            paths: 1 << 20,
-        };
-        let theirs = row::row(
-            &Order::from_record(&record).unwrap(),
-            lent,
-            None,
-            Method::Both,
-        );
-        let expected = match theirs {
-            Ok(row) => row.to_string(),
-            Err(dso_ref::Failure::Refused(refusal)) => refusal.to_string(),
-            Err(other) => panic!("{other:?}"),
-        };
-        assert_eq!(run(order).out, expected + "\n");
-    }
+    ORDERS.into_iter().for_each(second_tool);
+}
+
+/// Orders of several rates that the second tool answers soon.
+pub const ORDERS: [&str; 5] = [
+    "2 2 12 4 10 5 7",
+    "2 3 20 6 14 13 17",
+    "3 4 18 5 20 25 33 37",
+    "4 1 9 3 12 1 3 3 2",
+    "2 3 30 12 9 13 17",
+];
+
+/// The second tool prints the same for the order of these arguments.
+pub fn second_tool(arguments: &str) {
+    let record = bytes_on(&format!("--record {arguments}"), b"").stdout;
+    let lent = Lent {
+        events: 1 << 20,
+        paths: 1 << 20,
+    };
+    let theirs = row::row(
+        &Order::from_record(&record).unwrap(),
+        lent,
+        None,
+        Method::Both,
+    );
+    let expected = match theirs {
+        Ok(row) => row.to_string(),
+        Err(dso_ref::Failure::Refused(refusal)) => refusal.to_string(),
+        Err(other) => panic!("{other:?}"),
+    };
+    assert_eq!(run(arguments).out, expected + "\n", "{arguments}");
 }
 
 #[test]

@@ -1,5 +1,6 @@
 //! Random orders for the tests.
 
+use dso_ref::link::{Code, Kind};
 use dso_ref::Order;
 
 /// Marsaglia's xorshift, 64 bits: the same orders in every run.
@@ -24,7 +25,8 @@ impl Random {
         power | (self.next() % power) | 1
     }
 
-    /// An order that passes questions 3 to 9 and 16, within the greatest v, N, m, d.
+    /// An order of either kind that passes questions 3 to 9 and 16, within the
+    /// greatest v, N, m, d.
     pub fn order(&mut self, v: usize, length: usize, m: usize, d: usize) -> Order {
         loop {
             let v = self.from(1, v);
@@ -33,7 +35,9 @@ impl Random {
             let d = self.from(1, d);
             let n = self.from(2, 4);
             let generators: Vec<u64> = (0..n).map(|_| self.next() % (2 << v)).collect();
-            if let Ok(order) = Order::new(v, length, m, d, &generators) {
+            let kind = Kind::ALL[self.from(0, 1)];
+            let code = Code::of(kind, v, length, &generators);
+            if let Ok(order) = Order::new(code, m, d) {
                 return order;
             }
         }

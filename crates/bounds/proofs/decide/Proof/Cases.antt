@@ -11,7 +11,8 @@ use Rattle.lists.proofs.Choices.{cond-true, cond-false, eqb-passes, eqb-fails}
 use Rattle.lists.proofs.Tests.{T-and}
 use Rattle.events.specs.declared.Event.{Event}
 use Rattle.bounds.specs.declared.Chain.{Chain}
-use Rattle.bounds.specs.Model.Places.{mostSteps, tooHeavy}
+use Rattle.code.specs.Model.Steps.{mostSteps}
+use Rattle.bounds.specs.Model.Places.{tooHeavy}
 use Rattle.bounds.specs.Model.Tables.{fillAt, skipped, complete, continued, decided, Small}
 use Rattle.bounds.proofs.Cases.{leb-fails}
 

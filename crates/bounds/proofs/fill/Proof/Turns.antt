@@ -6,7 +6,8 @@ use mathlib.Core.Path.{_≡_, ap, _∙_}
 use mathlib.Core.List.{List}
 use lib.ListN.{length, set}
 use lib.Seq.{getD-set-other}
-use Rattle.bounds.specs.Model.Places.{mostSteps, fillPlace, bitsPlace}
+use Rattle.code.specs.Model.Steps.{mostSteps}
+use Rattle.bounds.specs.Model.Places.{fillPlace, bitsPlace}
 use Rattle.bounds.specs.Model.Tables.{bitsAt, leastSum, filledFrom, filled, Small}
 
 -- where the loop stands: what is left to fill in, from step k on

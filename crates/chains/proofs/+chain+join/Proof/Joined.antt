@@ -13,7 +13,7 @@ use Rattle.bounds.specs.Model.Tables.{bitsAt, skipped, complete, decided, ToDec
 use Rattle.bounds.proofs.Decided.{decided-fits, decided-shorter}
 use Rattle.chains.specs.Model.Chaining.{inputsOf, extended, found, foundBy, ToExtend, ToEmit, ToChain, ToJoin}
 use Rattle.chains.proofs.Found.{found-none, found-last, found-more}
-use Rattle.chains.proofs.Unfinished.{whole-word-lt, extended-unfinished}
+use Rattle.chains.proofs.Unfinished.{whole-word-lt, extended-short, extended-unfinished}
 
 module _ {table : List Event} {work paths : List ℕ} {at : ℕ} {begun : Chain} {e : Event}
     (ask : ToJoin table work paths at begun e) where
@@ -55,6 +55,7 @@ module _ {table : List Event} {work paths : List ℕ} {at : ℕ} {begun : Chain}
         asks-emit = record {
           small = ask .joins .ready .small;
           some-bits = ask .joins .ready .some-bits;
+          short-to-turn = rw is-longer (extended-short N begun e (ask .unfinished) (ask .joinable) (fit .0));
           word-small = rw is-longer (whole-word-lt N begun e (ask .unfinished) (ask .joinable) (fit .0));
           near = ask .near;
         }
@@ -75,7 +76,7 @@ module _ {table : List Event} {work paths : List ℕ} {at : ℕ} {begun : Chain}
             joins = ask .joins;
             unfinished =
                 rw is-longer (extended-unfinished N begun e (ask .unfinished) (ask .joinable)
-                (fit .0) (ask .joins .ready .small .bits-small)
+                (fit .0)
                 (decided-shorter work begun e not-skipped not-complete));
             near = ask .near;
           }

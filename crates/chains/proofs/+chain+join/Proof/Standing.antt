@@ -13,7 +13,7 @@ use Rattle.paths.specs.Paths.{pathRoom}
 use Rattle.rotations.specs.Model.Put.{puts}
 use Rattle.rotations.proofs.Puts.{puts-append, length-puts, puts-place, puts-past, puts-none}
 use Rattle.bounds.specs.declared.Chain.{Chain}
-use Rattle.bounds.specs.Model.Places.{mostSteps}
+use Rattle.code.specs.Model.Steps.{mostSteps}
 use Rattle.bounds.specs.Model.Tables.{startAt, endAt, bitsAt, beginning, following, Small, ToFollow}
 use Rattle.bounds.proofs.Placed.{lt-or-ge}
 use Rattle.bounds.proofs.Looked.{beginning-bounds, beginning-skips, following-bounds, following-skips}

@@ -1,7 +1,7 @@
 -- One event joined to a chain begun: what joining the inputs asks, and what `extend` makes.
 -- Assumes nothing.
 use Prim.Native.Nat.{ℕ, _+_, _-_, _*_, _/_, _%_, _^_, _≤_, _<_}
-use native.Mathlib.Nat.{lt-of-le-of-lt, lt-of-lt-of-le}
+use native.Mathlib.Nat.{lt-of-le-of-lt, mul-le-mul-left}
 use native.Mathlib.Omega.{arith}
 use mathlib.Core.Path.{_≡_, sym, ap, ap₂, _∙_}
 use mathlib.Core.List.{List}
@@ -13,8 +13,6 @@ use Rattle.paths.specs.Model.Joining.{firstOr}
 use Rattle.bounds.specs.declared.Chain.{Chain}
 use Rattle.bounds.specs.Model.Tables.{bitsAt}
 use Rattle.chains.specs.Model.Chaining.{inputsOf, wordOf, extended, ToExtend}
-use Rattle.chains.proofs.Found.{word-extended}
-use Rattle.chains.proofs.Unfinished.{whole-word-lt}
 
 module _ {work : List ℕ} {begun : Chain} {e : Event} (ask : ToExtend work begun e) where
   abbrev N : ℕ
@@ -23,19 +21,12 @@ module _ {work : List ℕ} {begun : Chain} {e : Event} (ask : ToExtend work begu
   abbrev place : ℕ
   place = N - begun .steps
 
-  pub place-small : place < 128
-  place-small = let some = ask .unfinished .some-left in let few = ask .small .bits-small in omega arith
-
-  -- the input, moved up, fits a word
+  -- the input, moved up, fits a word: no further up than where the event ends the chain
   pub input-up : (x : ℕ) → x ≡ wordOf e → x * 2 ^ place < 2 ^ 128
   input-up x q =
-      let all : inputsOf begun + wordOf e * 2 ^ place < 2 ^ N =
-      rw (word-extended N begun e) at (whole-word-lt N begun e (ask .unfinished) (ask .joinable) (ask .short)) in
-      rw q (lt-of-le-of-lt (part (inputsOf begun) (wordOf e * 2 ^ place))
-      (lt-of-lt-of-le all (pow-mono {i = N} {j = 128} (ask .small .bits-small))))
-    where
-      part : (a b : ℕ) → b ≤ a + b
-      part a b = omega arith
+      let short = ask .short in
+      let up : 2 ^ place ≤ 2 ^ (N - e .length) = pow-mono {i = place} {j = N - e .length} (omega arith) in
+      rw q (lt-of-le-of-lt (mul-le-mul-left (wordOf e) up) (ask .joinable .whole))
 
 -- a chain of which all but three numbers are known
 abbrev pub joint : Chain → Event → ℕ → ℕ → ℕ → Chain

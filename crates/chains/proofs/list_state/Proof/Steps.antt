@@ -19,7 +19,7 @@ pub record Bounds (work : List ℕ) (i : ℕ) : Type 0 where
   pub is-from : from ≡ firstOf work i
   pub is-to : to ≡ firstOf work (i + 1)
 
-module _ {table : List Event} {work paths : List ℕ} {at i w : ℕ} (ask : ToListState table work paths at i w) where
+module _ {table : List Event} {work paths : List ℕ} {at i first w : ℕ} (ask : ToListState table work paths at i first w) where
   module _ (b : Bounds work i) where
     pub asks-survey : Noted table (b .from) (b .to)
     asks-survey = rw (b .is-from, b .is-to) (state-noted (ask .indexed) i (ask .state-small))
@@ -45,7 +45,7 @@ module _ {table : List Event} {work paths : List ℕ} {at i w : ℕ} (ask : ToLi
     bits-are : bitsAt ws ≡ bitsAt work
     bits-are = ap bitsAt is-ws ∙ bits-atState (ask .indexed) i (ask .state-small)
 
-    module _ {begun : Chain} (is-begun : begun ≡ unbegun (bitsAt ws) w) where
+    module _ {begun : Chain} (is-begun : begun ≡ unbegun (bitsAt ws) first w) where
       pub asks-chain : ToChain table ws paths at begun
       asks-chain =
           let same = bits-are in
@@ -53,13 +53,14 @@ module _ {table : List Event} {work paths : List ℕ} {at i w : ℕ} (ask : ToLi
           let light = ask .light in
           record {
             joins = rw is-ws (joins-at-state (ask .indexed) i (ask .state-small));
-            unfinished = rw is-begun (unbegun-unfinished (bitsAt ws) w (omega (arith, same, some)) (omega (arith, light)));
+            unfinished = rw is-begun (unbegun-unfinished (bitsAt ws) first w (omega (arith, same, some))
+                (λ turned. let few = ask .short-to-turn turned in omega (arith, same, few)) (omega (arith, light)));
             near = ask .near;
           }
 
       pub listed-state : {ls : List ℕ} {r : ℕ} → (ls, r) ≡ puts (found table ws begun) (paths, at)
-          → (ws, (ls, r)) ≡ stateListed table w i work (paths, at)
+          → (ws, (ls, r)) ≡ stateListed table first w i work (paths, at)
       listed-state e =
-          let whole : begun ≡ unbegun (bitsAt work) w = is-begun ∙ ap (λ (N : ℕ). unbegun N w) bits-are in
+          let whole : begun ≡ unbegun (bitsAt work) first w = is-begun ∙ ap (λ (N : ℕ). unbegun N first w) bits-are in
           ap₂ (λ (x : List ℕ) (y : List ℕ × ℕ). (x, y)) is-ws
           (e ∙ ap₂ (λ (zs : List ℕ) (y : Chain). puts (found table zs y) (paths, at)) is-ws whole)

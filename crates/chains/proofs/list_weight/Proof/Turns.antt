@@ -13,28 +13,29 @@ use Rattle.rotations.proofs.Puts.{puts-none, puts-append, length-puts, puts-pla
 use Rattle.bounds.specs.Model.Places.{stateCount}
 use Rattle.bounds.specs.Model.Tables.{bitsAt}
 use Rattle.chains.specs.Model.Chaining.{atState, afterStates, found, foundFrom, unbegun, stateListed, weightListed, Indexed, Near, ToListState, ToListWeight}
-use Rattle.chains.proofs.States.{indexed-at-state}
+use Rattle.chains.proofs.States.{bits-atState, indexed-at-state}
 
 -- what n states from i on leave
-abbrev pub listedFrom : List Event → ℕ → ℕ → ℕ → List ℕ → List ℕ × ℕ → List ℕ × (List ℕ × ℕ)
-listedFrom table w n i us s = (afterStates table n i us, puts (foundFrom table w n i us) s)
+abbrev pub listedFrom : List Event → ℕ → ℕ → ℕ → ℕ → List ℕ → List ℕ × ℕ → List ℕ × (List ℕ × ℕ)
+listedFrom table first w n i us s = (afterStates table n i us, puts (foundFrom table first w n i us) s)
 
-one-state : (table : List Event) (w n i : ℕ) (us : List ℕ) (s : List ℕ × ℕ)
-    → listedFrom table w (suc n) i us s ≡ listedFrom table w n (i + 1)
-    (stateListed table w i us s .0) (stateListed table w i us s .1)
+one-state : (table : List Event) (first w n i : ℕ) (us : List ℕ) (s : List ℕ × ℕ)
+    → listedFrom table first w (suc n) i us s ≡ listedFrom table first w n (i + 1)
+    (stateListed table first w i us s .0) (stateListed table first w i us s .1)
 unfolding afterStates foundFrom
-one-state table w n i us s =
+one-state table first w n i us s =
     ap (λ (y : List ℕ × ℕ). (afterStates table n (i + 1) (atState table i us), y))
-    (puts-append (found table (atState table i us) (unbegun (bitsAt us) w)) (foundFrom table w n (i + 1) (atState table i us)) s)
+    (puts-append (found table (atState table i us) (unbegun (bitsAt us) first w)) (foundFrom table first w n (i + 1) (atState table i us)) s)
 
-module _ {table : List Event} {work paths : List ℕ} {at states w : ℕ} (ask : ToListWeight table work paths at states w) where
+module _ {table : List Event} {work paths : List ℕ} {at states first w : ℕ} (ask : ToListWeight table work paths at states first w) where
   -- at state i and position next, with the work area and the path table
   pub record Stands (i next : ℕ) (us ls : List ℕ) : Type 0 where
     pub indexed : Indexed table us
     pub near : Near ls next
+    pub same-bits : bitsAt us ≡ bitsAt work
     pub same-us : length us ≡ length work
     pub same-ls : length ls ≡ length paths
-    pub left : listedFrom table w (states - i) i us (ls, next) ≡ weightListed table w states work (paths, at)
+    pub left : listedFrom table first w (states - i) i us (ls, next) ≡ weightListed table first w states work (paths, at)
 
   pub record Stage : Type 0 where
     pub i : ℕ
@@ -49,9 +50,10 @@ module _ {table : List Event} {work paths : List ℕ} {at states w : ℕ} (ask :
   stands-first = record {
     indexed = ask .indexed;
     near = ask .near;
+    same-bits = refl;
     same-us = refl;
     same-ls = refl;
-    left = ap (λ (n : ℕ). listedFrom table w n 0 work (paths, at)) (all states);
+    left = ap (λ (n : ℕ). listedFrom table first w n 0 work (paths, at)) (all states);
   }
     where
       all : (x : ℕ) → x - 0 ≡ x
@@ -62,21 +64,27 @@ module _ {table : List Event} {work paths : List ℕ} {at states w : ℕ} (ask :
       few : x .i < stateCount
       few = lt-of-lt-of-le less (ask .few-states)
 
-      pub asks-state : ToListState table (x .us) (x .ls) (x .next) (x .i) w
-      asks-state = record { indexed = x .stands .indexed; state-small = few; light = ask .light; near = x .stands .near }
+      pub asks-state : ToListState table (x .us) (x .ls) (x .next) (x .i) first w
+      asks-state = record {
+        indexed = x .stands .indexed;
+        state-small = few;
+        short-to-turn = λ turned. subst (λ (N : ℕ). N ≤ 128) (sym (x .stands .same-bits)) (ask .short-to-turn turned);
+        light = ask .light;
+        near = x .stands .near;
+      }
 
       module _ {us ls : List ℕ} {r : ℕ} (same-us : length us ≡ length work) (same-ls : length ls ≡ length paths)
-          (turn : (us, (ls, r)) ≡ stateListed table w (x .i) (x .us) (x .ls, x .next)) where
+          (turn : (us, (ls, r)) ≡ stateListed table first w (x .i) (x .us) (x .ls, x .next)) where
         abbrev words : List ℕ
-        words = found table (atState table (x .i) (x .us)) (unbegun (bitsAt (x .us)) w)
+        words = found table (atState table (x .i) (x .us)) (unbegun (bitsAt (x .us)) first w)
 
-        left-again : listedFrom table w (states - (x .i + 1)) (x .i + 1) us (ls, r) ≡ weightListed table w states work (paths, at)
+        left-again : listedFrom table first w (states - (x .i + 1)) (x .i + 1) us (ls, r) ≡ weightListed table first w states work (paths, at)
         left-again =
             let n : ℕ = states - (x .i + 1) in
             let one : states - x .i ≡ suc n = omega arith in
-            ap (λ (y : List ℕ × (List ℕ × ℕ)). listedFrom table w n (x .i + 1) (y .0) (y .1)) turn
-            ∙ sym (one-state table w n (x .i) (x .us) (x .ls, x .next))
-            ∙ sym (ap (λ (m : ℕ). listedFrom table w m (x .i) (x .us) (x .ls, x .next)) one) ∙ x .stands .left
+            ap (λ (y : List ℕ × (List ℕ × ℕ)). listedFrom table first w n (x .i + 1) (y .0) (y .1)) turn
+            ∙ sym (one-state table first w n (x .i) (x .us) (x .ls, x .next))
+            ∙ sym (ap (λ (m : ℕ). listedFrom table first w m (x .i) (x .us) (x .ls, x .next)) one) ∙ x .stands .left
 
         near-again : Near ls r
         near-again =
@@ -90,14 +98,16 @@ module _ {table : List Event} {work paths : List ℕ} {at states w : ℕ} (ask :
           indexed = subst (Indexed table) (sym (ap (λ (y : List ℕ × (List ℕ × ℕ)). y .0) turn))
               (indexed-at-state (x .stands .indexed) (x .i) few);
           near = near-again;
+          same-bits = ap (λ (y : List ℕ × (List ℕ × ℕ)). bitsAt (y .0)) turn ∙ bits-atState (x .stands .indexed) (x .i) few
+              ∙ x .stands .same-bits;
           same-us = same-us;
           same-ls = same-ls;
           left = left-again;
         }
 
-    pub all-listed : states ≤ x .i → (x .us, (x .ls, x .next)) ≡ weightListed table w states work (paths, at)
+    pub all-listed : states ≤ x .i → (x .us, (x .ls, x .next)) ≡ weightListed table first w states work (paths, at)
     unfolding afterStates foundFrom
     all-listed over =
         let none : states - x .i ≡ 0 = omega arith in
         ap (λ (y : List ℕ × ℕ). (x .us, y)) (sym (puts-none (x .ls, x .next)))
-        ∙ sym (ap (λ (m : ℕ). listedFrom table w m (x .i) (x .us) (x .ls, x .next)) none) ∙ x .stands .left
+        ∙ sym (ap (λ (m : ℕ). listedFrom table first w m (x .i) (x .us) (x .ls, x .next)) none) ∙ x .stands .left

@@ -6,14 +6,14 @@ use native.Mathlib.Nat.{le-refl}
 use native.Mathlib.Omega.{arith}
 use Rattle.poly.specs.Word.{number}
 use Rattle.poly.proofs.Sum.{mod2-lt}
-use Rattle.code.specs.Weight.{output}
+use Rattle.code.specs.Model.Cyclic.{cyclicOutput}
 use Rattle.code.proofs.Steps.{output-lt}
 use Rattle.code.proofs.Turn.{output-none, output-more, output-all}
 use Rattle.code.proofs.cyclic.cyclic_product.Statement.{statement}
 use Rattle.code.proofs.cyclic.cyclic_product.Tie as tie
 
 abbrev Inv-loop : tie.InvT-loop
-Inv-loop u g v bits r₀ j₀ r j = (j ≤ v + 1) × (number r ≡ output bits (g / 2 ^ j) (number u))
+Inv-loop u g v bits r₀ j₀ r j = (j ≤ v + 1) × (number r ≡ cyclicOutput bits (g / 2 ^ j) (number u))
 
 abbrev μ-loop : tie.MeasureT-loop
 μ-loop u g v bits r₀ j₀ r j = j

@@ -16,18 +16,18 @@ use Rattle.code.proofs.Calls.{fit-of-range}
 use Rattle.code.proofs.encoder.encode_steps.Statement.{statement}
 use Rattle.code.proofs.encoder.encode_steps.Tie as tie
 
-record Sending (output₀ gs : List ℕ) (v bits u : ℕ) (output : List ℕ) (s t at : ℕ) : Type 0 where
-  within : t ≤ bits
-  state : s ≡ stateAt v bits u t
+record Sending (output₀ gs : List ℕ) (v steps u : ℕ) (output : List ℕ) (s t at : ℕ) : Type 0 where
+  within : t ≤ steps
+  state : s ≡ stateAt v steps u t
   place : at ≡ t * length gs
   same-size : length output ≡ length output₀
-  stored : output ≡ sets output₀ 0 (sent v bits gs u t)
+  stored : output ≡ sets output₀ 0 (sent v steps gs u t)
 
 abbrev Inv-loop : tie.InvT-loop
-Inv-loop output₀ generators v bits word s₀ t₀ at₀ output s t at = Sending output₀ generators v bits (number word) output s t at
+Inv-loop output₀ generators v steps word s₀ t₀ at₀ output s t at = Sending output₀ generators v steps (number word) output s t at
 
 abbrev μ-loop : tie.MeasureT-loop
-μ-loop output₀ generators v bits word s₀ t₀ at₀ output s t at = bits - t
+μ-loop output₀ generators v steps word s₀ t₀ at₀ output s t at = steps - t
 
 -- ---- at the loop's test
 
@@ -38,7 +38,7 @@ cleared : (c : tie.At-loop Inv-loop μ-loop) → length (c .loop .output) ≡ le
 cleared c = c .loop .inv .same-size ∙ ap length (c .before .before .before .before .clear-bytes .ensures) ∙ length-replicate _ _
 
 small-state : (c : tie.At-loop Inv-loop μ-loop) → c .loop .s < 256
-small-state c = first-small _ _ _ _ _ _ (le-refl _) (start c .pre .word .code .small-memory) (c .loop .inv .state)
+small-state c = first-small _ _ _ _ _ _ (le-refl _) (start c .pre .word .states .small-memory) (c .loop .inv .state)
 
 has-room : (c : tie.In-loop Inv-loop μ-loop)
     → c .before .loop .at + length (start (c .before) .args .generators .now) ≤ length (start (c .before) .args .output .now)
@@ -46,7 +46,7 @@ has-room c =
     let a = start (c .before) .args in
     let l = c .before .loop in
     let room = start (c .before) .pre .room in
-    step-room (a .v) (a .bits) (a .generators .now) (number (a .word)) (l .t) (l .at) _ (omega arith) (l .inv .place) room
+    step-room (a .v) (a .steps) (a .generators .now) (number (a .word)) (l .t) (l .at) _ (omega arith) (l .inv .place) room
 
 -- ---- the needs
 
@@ -55,8 +55,7 @@ clear-bytes-requires c κs = tt
 
 first-state-requires : tie.Need-first-state-requires Inv-loop μ-loop
 first-state-requires c κs =
-    let code = c .before .before .before .before .before .before .pre .word .code in
-    record { small-memory = code .small-memory; long-enough = code .long-enough; at-most-128 = code .at-most-128 }
+    c .before .before .before .before .before .before .pre .word .states
 
 loop-holds : tie.Need-loop-holds Inv-loop μ-loop
 loop-holds c =
@@ -66,7 +65,7 @@ loop-holds c =
       state = c .first-state .ensures;
       place = sym (zero-mul _);
       same-size = refl;
-      stored = ap (sets _ 0) (sym (sent-none (a .v) (a .bits) (a .generators .now) (number (a .word))));
+      stored = ap (sets _ 0) (sym (sent-none (a .v) (a .steps) (a .generators .now) (number (a .word))));
     }
 
 mul-window : tie.Need-mul-window Inv-loop μ-loop
@@ -82,7 +81,7 @@ put-step-requires : tie.Need-put-step-requires Inv-loop μ-loop
 put-step-requires c κs = omega (arith, has-room (c .before .before), cleared (c .before .before .before))
 
 power-requires : tie.Need-power-requires Inv-loop μ-loop
-power-requires c κs = omega (arith, start (c .before .before .before .before .before .before) .pre .word .code .small-memory)
+power-requires c κs = omega (arith, start (c .before .before .before .before .before .before) .pre .word .states .small-memory)
 
 rem-s : tie.Need-rem-s Inv-loop μ-loop
 rem-s c = rw (c .power .ensures) (pow-pos _)
@@ -110,10 +109,10 @@ loop-again c =
     let gs = a .generators .now in
     record {
       within = omega arith;
-      state = state-more (a .v) (a .bits) gs u (l .t) _ _ _ (omega arith) (i .state) (bit .ensures) (c .power .ensures);
-      place = at-more (a .v) (a .bits) gs u (l .t) (l .at) (i .place);
+      state = state-more (a .v) (a .steps) gs u (l .t) _ _ _ (omega arith) (i .state) (bit .ensures) (c .power .ensures);
+      place = at-more (a .v) (a .steps) gs u (l .t) (l .at) (i .place);
       same-size = stored-length (l .output) _ (l .at) (map (tapped (2 * l .s + bit .result)) gs) _ put (i .same-size);
-      stored = sent-more (a .v) (a .bits) gs u (l .t) (l .at) _ _ _ _ _ (i .place) (i .stored) (i .state) (bit .ensures) put;
+      stored = sent-more (a .v) (a .steps) gs u (l .t) (l .at) _ _ _ _ _ (i .place) (i .stored) (i .state) (bit .ensures) put;
     }
 
 same-length : tie.Need-same-length Inv-loop μ-loop
@@ -124,8 +123,8 @@ returns c =
     let l = c .before .loop in
     let a = start (c .before) .args in
     let p = start (c .before) .pre in
-    all-sent (a .v) (a .bits) (a .generators .now) (number (a .word)) (l .t) _ _ (a .output .now) (p .word .code .long-enough) (p .word .fits)
-    (fit-of-range (a .v) (a .generators .now) (p .word .code .in-range)) (omega arith) (p .room) (c .before .before .before .before .before .clear-bytes .ensures) (l .inv .stored)
+    all-sent (a .v) (a .steps) (a .generators .now) (number (a .word)) (l .t) _ _ (a .output .now) (p .word .states .long-enough) (p .word .fits)
+    (fit-of-range (a .v) (a .generators .now) (p .word .generators .in-range)) (omega arith) (p .room) (c .before .before .before .before .before .clear-bytes .ensures) (l .inv .stored)
 
 pub encode-steps-spec : {M : Type 1} → statement M
 encode-steps-spec =

@@ -11,10 +11,10 @@ use Rattle.code.proofs.encoder.first_state.Statement.{statement}
 use Rattle.code.proofs.encoder.first_state.Tie as tie
 
 abbrev Inv-loop : tie.InvT-loop
-Inv-loop word v bits s₀ k₀ s k = (k ≤ v) × (s ≡ stateAt k bits (number word) (bits - v + k))
+Inv-loop word v steps s₀ k₀ s k = (k ≤ v) × (s ≡ stateAt k steps (number word) (steps - v + k))
 
 abbrev μ-loop : tie.MeasureT-loop
-μ-loop word v bits s₀ k₀ s k = v - k
+μ-loop word v steps s₀ k₀ s k = v - k
 
 loop-holds : tie.Need-loop-holds Inv-loop μ-loop
 loop-holds c = (zero-le, first-none _ _ _)
@@ -47,13 +47,13 @@ loop-again : tie.Need-loop-again Inv-loop μ-loop
 loop-again c =
     let l = c .before .before .loop in
     let a = c .before .before .before .args in
-    (omega arith, first-more (a .v) (a .bits) _ (l .k) _ _ (omega arith) (omega arith) (l .inv .1) (c .bit-at .ensures))
+    (omega arith, first-more (a .v) (a .steps) _ (l .k) _ _ (omega arith) (omega arith) (l .inv .1) (c .bit-at .ensures))
 
 returns : tie.Need-returns Inv-loop μ-loop
 returns c =
     let l = c .before .loop in
     let a = c .before .before .args in
-    first-all (a .v) (a .bits) _ (l .k) _ (omega arith) (omega arith) (l .inv .1)
+    first-all (a .v) (a .steps) _ (l .k) _ (omega arith) (omega arith) (l .inv .1)
 
 pub first-state-spec : {M : Type 1} → statement M
 first-state-spec =

@@ -15,6 +15,9 @@ use lib.Pow.{pow-mono}
 use lib.ListN.{length, replicate, length-replicate, length-map}
 use Rattle.lists.specs.Lists.{padded, cleared}
 use Rattle.lists.proofs.Choices.{cond-true, cond-false}
+use Rattle.code.specs.Links.{stepsOf, eventStates}
+use Rattle.code.specs.Model.Steps.{mostSteps}
+use Rattle.code.proofs.Links.{few-steps, some-steps, states-le}
 use Rattle.order.specs.Order.{Order}
 use Rattle.order.specs.Questions.{workSize}
 use Rattle.order.specs.Answer.{Answer, accepted, refused}
@@ -37,23 +40,23 @@ use Rattle.collection.proofs.Appends.{Kept, appends-none, appends-appen
 -- ---- turns and their states
 
 -- the state stays until the last length
-same-state : (k N : ℕ) → 1 ≤ N → (k + 1) % N ≢ 0 → (k + 1) / N ≡ k / N
-same-state k N pos n =
-    let rem : k % N < N = mod-lt k pos in
-    let parts : k / N * N + (k % N + 1) ≡ k + 1 = moved (k / N * N) (k % N) k (div-add-mod' k N) in
-    elim (ℕ-discrete (k % N + 1) N) [
-      | yes e ↦ absurd (n (sym (ap (λ (x : ℕ). x % N) (parts-full (k / N) e parts)) ∙ whole (k / N)))
-      | no ne ↦ ap (λ (x : ℕ). x / N) (sym parts) ∙ digits-div (k / N) (omega arith)
+same-state : (k steps : ℕ) → 1 ≤ steps → (k + 1) % steps ≢ 0 → (k + 1) / steps ≡ k / steps
+same-state k steps pos n =
+    let rem : k % steps < steps = mod-lt k pos in
+    let parts : k / steps * steps + (k % steps + 1) ≡ k + 1 = moved (k / steps * steps) (k % steps) k (div-add-mod' k steps) in
+    elim (ℕ-discrete (k % steps + 1) steps) [
+      | yes e ↦ absurd (n (sym (ap (λ (x : ℕ). x % steps) (parts-full (k / steps) e parts)) ∙ whole (k / steps)))
+      | no ne ↦ ap (λ (x : ℕ). x / steps) (sym parts) ∙ digits-div (k / steps) (omega arith)
     ]
   where
     moved : (x y z : ℕ) → x + y ≡ z → x + (y + 1) ≡ z + 1
     moved x y z e = omega arith
 
-    parts-full : (q : ℕ) → k % N + 1 ≡ N → q * N + (k % N + 1) ≡ k + 1 → suc q * N ≡ k + 1
-    parts-full q e p = suc-mul q N ∙ ap (λ (x : ℕ). q * N + x) (sym e) ∙ p
+    parts-full : (q : ℕ) → k % steps + 1 ≡ steps → q * steps + (k % steps + 1) ≡ k + 1 → suc q * steps ≡ k + 1
+    parts-full q e p = suc-mul q steps ∙ ap (λ (x : ℕ). q * steps + x) (sym e) ∙ p
 
-    whole : (q : ℕ) → suc q * N % N ≡ 0
-    whole q = mul-mod-left (suc q) N
+    whole : (q : ℕ) → suc q * steps % steps ≡ 0
+    whole q = mul-mod-left (suc q) steps
 
 -- an accepted order, and what is lent: how long the two are
 pub record Job : Type 0 where
@@ -73,8 +76,8 @@ module _ (j : Job) where
   abbrev v : ℕ
   v = j .order .v
 
-  abbrev N : ℕ
-  N = j .order .N
+  abbrev steps : ℕ
+  steps = stepsOf order
 
   abbrev d : ℕ
   d = j .order .d
@@ -92,7 +95,7 @@ module _ (j : Job) where
   words = (2 ^ v + 7) / 8
 
   abbrev pub last : ℕ
-  last = 2 ^ v * N
+  last = eventStates order * steps
 
   -- all events, and the table that they are to be listed in
   abbrev pub whole : List Event × ℕ
@@ -101,8 +104,8 @@ module _ (j : Job) where
   states-few : 2 ^ v ≤ 256
   states-few = pow-mono (acc .code .small-memory)
 
-  pub some-length : 1 ≤ N
-  some-length = let a = acc .code .some-memory in let b = acc .code .long-enough in omega arith
+  some : 1 ≤ steps
+  some = some-steps order (acc .code)
 
   pub words-few : words ≤ rowWords
   words-few = let few = states-few in omega arith
@@ -115,7 +118,7 @@ module _ (j : Job) where
     pub kept : Kept nt (zs, at)
     pub work-size : length us ≡ nw
     pub ready : Ready gs v d us
-    pub filled : k % N ≢ 0 → Filled (k / N) words N us
+    pub filled : k % steps ≢ 0 → Filled (k / steps) words steps us
     pub rest : appends (turnsFrom order (last - k) k) (zs, at) ≡ whole
 
   pub standing-first : (work : List ℕ) → length work ≡ nw → Standing 0 0 (replicate nt noEvent) (prepared gs v d work)
@@ -125,7 +128,7 @@ module _ (j : Job) where
         kept = record { size = length-replicate nt noEvent; near = omega arith };
         work-size = length-prepared gs v d work ∙ size;
         ready = prepared-ready gs v d work (subst (λ (n : ℕ). tablesEnd ≤ n) (sym size) (tables-inside (j .enough)));
-        filled = λ n. absurd (n (mod-eq-of-lt some-length));
+        filled = λ n. absurd (n (mod-eq-of-lt some));
         rest = ap (λ (es : List Event). appends es (replicate nt noEvent, 0)) (ap (λ (n : ℕ). turnsFrom order n 0) (all-left last) ∙ all-turns order);
       }
     where
@@ -137,47 +140,46 @@ module _ (j : Job) where
     tables-before = ready-tables gs v d us (acc .code .few-generators) (acc .code .small-memory) (s .ready)
 
     abbrev pub next-work : List ℕ
-    next-work = turned words N k us
+    next-work = turned words steps k us
 
     abbrev pub next-table : List Event × ℕ
-    next-table = appends (found next-work (first N k)) (zs, at)
+    next-table = appends (found next-work (first steps k)) (zs, at)
 
     pub work-turned : length next-work ≡ nw
-    work-turned = length-turned words N k us ∙ s .work-size
+    work-turned = length-turned words steps k us ∙ s .work-size
 
-    turned-well : Turned gs v d words N k next-work
-    turned-well = turn-ready gs v d words N k us (acc .code .at-most-128) words-few (acc .code .small-memory) (s .ready) (s .filled)
+    turned-well : Turned gs v d words steps k next-work
+    turned-well = turn-ready gs v d words steps k us (few-steps order (acc .code)) words-few (acc .code .small-memory) (s .ready) (s .filled)
 
     pub tables-turned : Tables next-work
     tables-turned = ready-tables gs v d next-work (acc .code .few-generators) (acc .code .small-memory) (turned-well .ready)
 
-    rem : k % N < N
-    rem = mod-lt k some-length
+    rem : k % steps < steps
+    rem = mod-lt k some
 
-    pub length-short : lengthAt next-work ≤ 128
-    length-short = let is = turned-well .length-is in let r = rem in let most = acc .code .at-most-128 in omega arith
+    pub length-short : lengthAt next-work ≤ mostSteps
+    length-short = let is = turned-well .length-is in let r = rem in let most = few-steps order (acc .code) in omega arith
 
     module _ (less : k < last) where
-      state-fits : k / N < 2 ^ v
-      state-fits = div-lt-iff-lt-mul some-length .1 less
+      state-begins : k / steps < eventStates order
+      state-begins = div-lt-iff-lt-mul some .1 less
 
-      pub node-first : Walkable (first N k)
-      node-first = let few = states-few in let state = state-fits in first-node N k some-length (acc .code .at-most-128) (omega arith) rem
+      pub node-first : Walkable (first steps k)
+      node-first = let few = states-few in let fit = states-le order in let begins = state-begins in first-node steps k (few-steps order (acc .code)) (omega arith) rem
 
-      met-here : found next-work (first N k) ≡ turnEvents order k
+      met-here : found next-work (first steps k) ≡ turnEvents order k
       unfolding turnEvents
       met-here =
           let r = rem in
-          found-is order next-work words k (turned-well .ready) (turned-well .filled) (acc .code .some-memory) (acc .code .small-memory) covers state-fits (omega arith)
-          (acc .threshold .at-most-64) (acc .code .at-most-128) (turned-well .length-is)
+          found-is order (acc .code) next-work words k (turned-well .ready) (turned-well .filled) covers state-begins (omega arith) (acc .threshold .at-most-64) (turned-well .length-is)
 
       pub standing-next : Standing (k + 1) (next-table .1) (next-table .0) next-work
       standing-next = record {
         at-most = omega arith;
-        kept = appends-kept (found next-work (first N k)) nt (zs, at) (s .kept);
+        kept = appends-kept (found next-work (first steps k)) nt (zs, at) (s .kept);
         work-size = work-turned;
         ready = turned-well .ready;
-        filled = λ n. subst (λ (i : ℕ). Filled i words N next-work) (sym (same-state k N some-length n)) (turned-well .filled);
+        filled = λ n. subst (λ (i : ℕ). Filled i words steps next-work) (sym (same-state k steps some n)) (turned-well .filled);
         rest =
             ap (λ (es : List Event). appends (turnsFrom order (last - (k + 1)) (k + 1)) (appends es (zs, at))) met-here
             ∙ appends-append (turnEvents order k) (turnsFrom order (last - (k + 1)) (k + 1)) (zs, at)
@@ -218,11 +220,11 @@ module _ (j : Job) where
   all-met x over = standing-last (x .k) (x .at) (x .zs) (x .us) (x .stands) over
 
   -- a turn, whatever its lists and its node are called
-  module _ (x : Stage) (small : x .k < last) (us′ : List ℕ) (is-us : us′ ≡ turned words N (x .k) (x .us)) (e : Node) (is-e : e ≡ first N (x .k)) where
+  module _ (x : Stage) (small : x .k < last) (us′ : List ℕ) (is-us : us′ ≡ turned words steps (x .k) (x .us)) (e : Node) (is-e : e ≡ first steps (x .k)) where
     pub descent : Descent us′ (x .zs) (x .at) e
     descent = record {
       tables = subst Tables (sym is-us) (tables-turned (x .k) (x .at) (x .zs) (x .us) (x .stands));
-      short = subst (λ (u : List ℕ). lengthAt u ≤ 128) (sym is-us) (length-short (x .k) (x .at) (x .zs) (x .us) (x .stands));
+      short = subst (λ (u : List ℕ). lengthAt u ≤ mostSteps) (sym is-us) (length-short (x .k) (x .at) (x .zs) (x .us) (x .stands));
       walkable = subst Walkable (sym is-e) (node-first (x .k) (x .at) (x .zs) (x .us) (x .stands) small);
       near = let size = x .stands .kept .size in let near = x .stands .kept .near in omega arith;
     }

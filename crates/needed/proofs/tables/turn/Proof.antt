@@ -16,7 +16,7 @@ rem-step : tie.Need-rem-step
 rem-step c = search needs
 
 add-work : tie.Need-add-work
-add-work c = let a = c .before .args in let h : a .k % a .bits < a .bits = mod-lt (a .k) (omega arith) in omega arith
+add-work c = let a = c .before .args in let h : a .k % a .steps < a .steps = mod-lt (a .k) (omega arith) in omega arith
 
 slice-write-work : tie.Need-slice-write-work
 slice-write-work c = search needs

@@ -20,6 +20,9 @@ byte-at-requires-4 c κs = search needs
 byte-at-requires-5 : tie.Need-byte-at-requires-5
 byte-at-requires-5 c κs = search needs
 
+byte-at-requires-6 : tie.Need-byte-at-requires-6
+byte-at-requires-6 c κs = search needs
+
 two-at-requires : tie.Need-two-at-requires
 two-at-requires c κs = search needs
 
@@ -34,7 +37,20 @@ two-at-requires-4 c κs = search needs
 
 returns : tie.Need-returns
 unfolding fieldsOf
-returns c = λ i. record { n = c .before .before .before .before .before .before .before .before .byte-at .ensures .0 i; v = c .before .before .before .before .before .before .before .byte-at2 .ensures .0 i; bits = c .before .before .before .before .before .before .byte-at3 .ensures .0 i; m = c .before .before .before .before .before .byte-at4 .ensures .0 i; d = c .before .before .before .before .byte-at5 .ensures .0 i; g1 = c .before .before .before .two-at .ensures i; g2 = c .before .before .two-at2 .ensures i; g3 = c .before .two-at3 .ensures i; g4 = c .two-at4 .ensures i }
+returns c =
+    let gs = c .before .before .before .before in
+    λ i. record {
+      version = gs .before .before .before .before .before .byte-at .ensures .0 i;
+      n = gs .before .before .before .before .byte-at2 .ensures .0 i;
+      v = gs .before .before .before .byte-at3 .ensures .0 i;
+      bits = gs .before .before .byte-at4 .ensures .0 i;
+      m = gs .before .byte-at5 .ensures .0 i;
+      d = gs .byte-at6 .ensures .0 i;
+      g1 = c .before .before .before .two-at .ensures i;
+      g2 = c .before .before .two-at2 .ensures i;
+      g3 = c .before .two-at3 .ensures i;
+      g4 = c .two-at4 .ensures i;
+    }
 
 pub fields-spec : {M : Type 1} → statement M
 fields-spec =
@@ -45,6 +61,7 @@ fields-spec =
     byte-at-requires-3
     byte-at-requires-4
     byte-at-requires-5
+    byte-at-requires-6
     two-at-requires
     two-at-requires-2
     two-at-requires-3

@@ -5,13 +5,16 @@ mod polynomials;
 mod remainders;
 mod rivals;
 mod rotations;
+mod tail;
+mod trellis;
 mod zero;
 
-use dohvrin::{Order, Refusal, Row, Tables};
+use dohvrin::{Link, Order, Refusal, Row, Tables};
 use std::io::{self, Write};
 
 /// The listed paths: those of each weight below d, in increasing order.
 struct Paths {
+    link: Link,
     /// N, the bits of a word.
     bits: u32,
     by_weight: Vec<Vec<u128>>,
@@ -20,6 +23,7 @@ struct Paths {
 impl Paths {
     fn of(order: &Order, tables: &Tables) -> Paths {
         Paths {
+            link: order.link(),
             bits: order.bits() as u32,
             by_weight: (0..order.d())
                 .map(|w| tables.paths_of(w).collect())
@@ -49,9 +53,12 @@ pub fn write(
 ) -> io::Result<bool> {
     let paths = Paths::of(order, tables);
     let coprime = polynomials::write(out, order.generators(), answer)?;
-    let turned = rotations::write(out, &paths)?;
-    let avoided = zero::write(out, order, &paths)?;
+    let moved = rotations::write(out, &paths)?;
+    let walked = match order.link() {
+        Link::TailBiting => zero::write(out, order, &paths)?,
+        Link::Terminated => tail::write(out, order, &paths)?,
+    };
     let best = rivals::write(out, order, answer, tables.undetected(), &paths)?;
     out.flush()?;
-    Ok(coprime && turned && avoided && best)
+    Ok(coprime && moved && walked && best)
 }

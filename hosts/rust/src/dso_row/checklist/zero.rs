@@ -2,7 +2,7 @@
 //! are terminated has none of them; whether there must be some, the trellis
 //! says.
 
-use super::Paths;
+use super::{trellis, Paths};
 use dohvrin::Order;
 use std::io::{self, Write};
 
@@ -18,20 +18,13 @@ pub fn write(out: &mut impl Write, order: &Order, paths: &Paths) -> io::Result<b
         writeln!(out, "   weight {weight}: {count} of {}{shown}", part.len())?;
         first = first.or(example.map(|_| weight as u64));
     }
-    let lightest = lightest(order);
-    let right = first == Some(lightest).filter(|&weight| weight < order.d());
-    let sign = if right { "" } else { "DIFFERS: " };
-    writeln!(
-        out,
-        "   {sign}by the trellis, the lightest such word weighs {lightest}"
-    )?;
-    Ok(right)
+    trellis::write_lightest(out, order, "such word", lightest(order), first)
 }
 
 /// The least weight of a closed walk that is never in state 0.
 fn lightest(order: &Order) -> u64 {
     let states = 1 << order.v();
-    let from = |start| closed_walk(order, states, start);
+    let from = |start| closed_walk(order, start);
     (1..states)
         .filter_map(from)
         .min()
@@ -39,29 +32,13 @@ fn lightest(order: &Order) -> u64 {
 }
 
 /// The least weight of a walk from a state back to it, if there is one.
-fn closed_walk(order: &Order, states: usize, start: usize) -> Option<u64> {
-    let mut least = vec![None; states];
-    least[start] = Some(0);
+fn closed_walk(order: &Order, start: usize) -> Option<u64> {
+    let mut least = trellis::at(order, start);
+    let states = least.len();
     for _ in 0..order.bits() {
-        let mut next: Vec<Option<u64>> = vec![None; states];
-        for window in 2..2 * states {
-            // The state before the step is in the window's upper bits.
-            let to = window % states;
-            let Some(before) = least[window / 2].filter(|_| to != 0) else {
-                continue;
-            };
-            let weight = before + step_weight(order, window as u64);
-            next[to] = Some(next[to].map_or(weight, |other| weight.min(other)));
-        }
-        least = next;
+        least = trellis::step(order, &least, |window| window % states != 0);
     }
     least[start]
-}
-
-/// How many generators put out a one where the last v+1 inputs are these.
-fn step_weight(order: &Order, window: u64) -> u64 {
-    let ones = |g: &u64| u64::from((g & window).count_ones() % 2);
-    order.generators().iter().map(ones).sum()
 }
 
 /// Whether v places in a row are zero, the first after the last: the bits of a
@@ -79,11 +56,12 @@ fn passes_zero(word: u128, v: u32, paths: &Paths) -> bool {
 mod tests {
     use super::{lightest, passes_zero};
     use crate::checklist::Paths;
-    use dohvrin::Order;
+    use dohvrin::{Link, Order};
 
     #[test]
     fn zeros_in_a_row() {
         let paths = |bits| Paths {
+            link: Link::TailBiting,
             bits,
             by_weight: Vec::new(),
         };
@@ -102,6 +80,7 @@ mod tests {
         for (generators, v, bits) in [([1, 3], 1, 4), ([5, 7], 2, 9), ([0o13, 0o17], 3, 10)] {
             let order = Order::new(&generators, v, bits, 1, 1).unwrap();
             let paths = Paths {
+                link: Link::TailBiting,
                 bits: bits as u32,
                 by_weight: Vec::new(),
             };

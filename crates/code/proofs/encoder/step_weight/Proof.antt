@@ -6,10 +6,10 @@ use mathlib.Core.Path.{_≡_}
 use mathlib.Core.List.{List}
 use Prim.Native.Nat.{ℕ, _+_, _-_, _/_, _%_, _≤_}
 use lib.ListN.{length, drop, getD}
 use Rattle.code.specs.Trellis.{stepWeight}
-use Rattle.needed.proofs.Filling.{weight-again, weight-none, ones-fit}
-use Rattle.needed.proofs.tables.step_weight.Statement.{statement}
-use Rattle.needed.proofs.tables.step_weight.Tie as tie
+use Rattle.code.proofs.Weights.{step-again, step-end, ones-fit}
+use Rattle.code.proofs.encoder.step_weight.Statement.{statement}
+use Rattle.code.proofs.encoder.step_weight.Tie as tie
 
 record Summing (generators : List ℕ) (x sum i : ℕ) : Type 0 where
   within : i ≤ length generators
@@ -44,10 +44,10 @@ loop-less : tie.Need-loop-less Inv-loop μ-loop
 loop-less c = omega arith
 
 loop-again : tie.Need-loop-again Inv-loop μ-loop
-loop-again c = record { within = omega arith; small = omega arith; adds = weight-again _ _ _ _ (omega arith) (c .before .before .loop .inv .adds) }
+loop-again c = record { within = omega arith; small = omega arith; adds = step-again _ _ _ _ (omega arith) (c .before .before .loop .inv .adds) }
 
 returns : tie.Need-returns Inv-loop μ-loop
-returns c = weight-none _ _ (c .before .loop .i) _ (omega arith) (c .before .loop .inv .adds)
+returns c = step-end _ _ (c .before .loop .i) _ (omega arith) (c .before .loop .inv .adds)
 
 pub step-weight-spec : {M : Type 1} → statement M
 step-weight-spec =
