@@ -49,6 +49,10 @@
   there are, both counts of every weight below d, and the polynomial. A row's
   text does not say the kind of link.
 
+  Events of a tail-biting link that were collected for N serve every shorter
+  length: those of at most N' steps, in their order, are the events for N'. To
+  quote N' is to make its row from the events for N.
+
   A program
   ---------
       #include <stdio.h>
@@ -103,31 +107,33 @@
   printed as it is told, for an order that a call has accepted before. A
   refused call has no other result: the rest of its answer is 0, and what was
   lent to it is as it was; after 13 and 14, it is 0. Only 15 says more, and
-  leaves more: see dohvrin_search.
+  leaves more: see dohvrin_search. A quote takes N, the order's, and N'; where
+  a question is about both, either can be refused.
 
       no.  question                                                 asked by
        1   Are there 2 bytes, and does the length in them equal
            the number of bytes after them?                          read_order
        2   Is the version 1 or 2? (In a record: is there a version  as 3
-           byte, too?)
+           byte, too? For a quote: is it 1?)
        3   Are there 2 to 4 generators: is n from 2 to 4? (In a     weigh encode
            record: is n there, too, and is the length 6 + 2n?)      collect list
-                                                                    search count
-                                                                    row_text
+                                                                    search quote
+                                                                    count row_text
                                                                     read_order
        4   Is v from 1 to 8?                                        weigh encode
                                                                     collect list
-                                                                    search count
-                                                                    read_order
-       5   Is N from v (from 1 where a call takes no v) to 128?     as 4, append
-                                                                    strip test
-       6   Is m from 1 to 12 and below N?                           append strip
-                                                                    test search
+                                                                    search quote
                                                                     count
                                                                     read_order
+       5   Is N from v (from 1 where a call takes no v) to 128?     as 4, append
+           (For a quote: is N' from v to N, too?)                   strip test
+       6   Is m from 1 to 12 and below N? (For a quote: and below   append strip
+           N'?)                                                     test search
+                                                                    quote count
+                                                                    read_order
        7   Is d from 1 to 64?                                       collect list
-                                                                    search count
-                                                                    row_text
+                                                                    search quote
+                                                                    count row_text
                                                                     read_order
        8   Is every generator nonzero and below 2^(v+1)?            as 4
        9   Has some generator bit v, and some generator (the same
@@ -136,9 +142,11 @@
       10   Has the output at least n bytes for each step: n times N encode
            of them, or n times N+v on a terminated link?
            Has the work area at least 8,192 numbers?                collect list
-                                                                    search count
+                                                                    search quote
+                                                                    count
            Has each list of counts at least d entries?              list search
-                                                                    count row_text
+                                                                    quote count
+                                                                    row_text
            Has the text at least 4,096 bytes?                       row_text
                                                                     refusal_text
            Is there a count of the weight, and has the table the
@@ -148,11 +156,12 @@
       12   Is the word below 2^N, the message below 2^K?            append strip
                                                                     test weigh
                                                                     encode
-      13   Are there at most as many events as entries?             collect list
-                                                                    search count
-      14   Are there at most as many paths as pairs of numbers?     list search
+      13   Are there at most as many events as entries? (For a      collect list
+           quote: of those for N.)                                  search quote
                                                                     count
-      15   Is one polynomial better than all others?                search
+      14   Are there at most as many paths as pairs of numbers?     list search
+           (For a quote: of those for N'.)                          quote count
+      15   Is one polynomial better than all others?                search quote
 
   What the library counts on
   --------------------------
@@ -223,10 +232,10 @@ struct dohvrin_listing {
     uint64_t paths;   /* how many paths are in the path table */
 };
 
-/* What a search answers. */
+/* What a search or a quote answers. */
 struct dohvrin_row {
     uint64_t refusal;    /* the number of the question that said no, or 0 */
-    uint64_t events;     /* how many events are in the event table */
+    uint64_t events;     /* how many events the row has: after a quote the table may have more */
     uint64_t paths;      /* how many paths are in the path table */
     uint64_t polynomial; /* the best polynomial */
     uint64_t left;       /* after refusal 15: how many share the best counts */
@@ -367,6 +376,31 @@ struct dohvrin_row dohvrin_search(struct dohvrin_order order, struct dohvrin_eve
                                   size_t work_numbers);
 
 /*
+  Quotes a shorter length: collects the events of a tail-biting order for its N
+  and makes the row for words of N' = bits from those of at most N' steps.
+  Accepted: the answer is that of dohvrin_search for the same order with N' in
+  place of N; `events` says how many there are of at most N' steps. The event
+  table is as dohvrin_collect leaves it for N; path table, plain and undetected
+  counts and work area are as dohvrin_search leaves them for N'. Refusal 15,
+  several are best for N', is told as by dohvrin_search, and the tables are as
+  an accepted call leaves them. Refusals 13, there are more events for N than
+  entries, and 14, there are more paths for N' than pairs of numbers: all five
+  are 0 throughout. Other refusals: 2 (the version is not 1), 3, 4, 5 (N is not
+  from v to 128, or N' not from v to N), 6 (m is not from 1 to 12, below N and
+  below N'), 7, 8, 9, 16, 10 (as of dohvrin_search); then all five are as they
+  were. Where none of 2 to 13 refuses, the row or the refusal is the one that
+  dohvrin_search gives for N'. What they held before the call does not matter.
+  That the pointers have as many entries and numbers as is said, and that none
+  of the tables overlaps another, cannot be checked.
+*/
+struct dohvrin_row dohvrin_quote(struct dohvrin_order order, uint64_t bits,
+                                 struct dohvrin_event *events, size_t event_entries,
+                                 uint64_t *paths, size_t path_numbers, uint64_t *plain,
+                                 size_t plain_entries, uint64_t *undetected,
+                                 size_t undetected_entries, uint64_t *work,
+                                 size_t work_numbers);
+
+/*
   Counts the undetected paths of one polynomial of degree m, without a search.
   Accepted: the answer says how many events and paths there are; tables and
   plain counts are as dohvrin_search leaves them, and the undetected counts are
@@ -462,6 +496,16 @@ static inline struct dohvrin_row dohvrin_search_in(struct dohvrin_order order,
                           tables.path_numbers, tables.plain, tables.plain_entries,
                           tables.undetected, tables.undetected_entries, tables.work,
                           tables.work_numbers);
+}
+
+/* dohvrin_quote in these tables. */
+static inline struct dohvrin_row dohvrin_quote_in(struct dohvrin_order order, uint64_t bits,
+                                                  struct dohvrin_tables tables)
+{
+    return dohvrin_quote(order, bits, tables.events, tables.event_entries, tables.paths,
+                         tables.path_numbers, tables.plain, tables.plain_entries,
+                         tables.undetected, tables.undetected_entries, tables.work,
+                         tables.work_numbers);
 }
 
 /* dohvrin_count in these tables. */

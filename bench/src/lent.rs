@@ -3,7 +3,7 @@
 
 use crate::orders::Order;
 use crate::plain::{self, search::Best};
-use dohvrin::{Event, Listed, Searched, WORK};
+use dohvrin::{Event, Listed, Refusal, Searched, WORK};
 
 pub struct Lent {
     order: Order,
@@ -35,10 +35,26 @@ impl Lent {
         }
     }
 
+    fn all(&mut self) -> dohvrin::Lent<'_> {
+        dohvrin::Lent {
+            events: &mut self.events,
+            paths: &mut self.numbers,
+            plain: &mut self.plain,
+            undetected: &mut self.undetected,
+            work: &mut self.work,
+        }
+    }
+
     /// What the call before left; the paths are for `same_paths`.
     pub fn left(&self) -> (Vec<Event>, Vec<u64>, Vec<u64>) {
         let Lent { events, plain, .. } = self;
         (events.clone(), plain.clone(), self.undetected.clone())
+    }
+
+    /// Whether the library's calls left the same paths and counts in both.
+    pub fn same_row(&self, other: &Lent) -> bool {
+        let counts = self.plain == other.plain && self.undetected == other.undetected;
+        counts && self.numbers == other.numbers
     }
 
     /// Whether the library's call and plain Rust's left the same paths.
@@ -78,15 +94,18 @@ pub fn plain_list(lent: &mut Lent) -> Option<usize> {
 
 /// The best polynomial, or how many are best: none where a table is too small.
 pub fn library_search(lent: &mut Lent) -> Option<Best> {
-    let o = &lent.order;
-    let all = dohvrin::Lent {
-        events: &mut lent.events,
-        paths: &mut lent.numbers,
-        plain: &mut lent.plain,
-        undetected: &mut lent.undetected,
-        work: &mut lent.work,
-    };
-    match dohvrin::search(o.given(), all) {
+    let order = lent.order.given();
+    best(dohvrin::search(order, lent.all()))
+}
+
+/// The same for a shorter length.
+pub fn library_quote(lent: &mut Lent, bits: u64) -> Option<Best> {
+    let order = lent.order.given();
+    best(dohvrin::quote(order, bits, lent.all()))
+}
+
+fn best(searched: Result<Searched, Refusal>) -> Option<Best> {
+    match searched {
         Ok(Searched::Found(found)) => Some(Best::One(found.polynomial)),
         Ok(Searched::Tied(left)) => Some(Best::Several(left)),
         Err(_) => None,

@@ -12,13 +12,14 @@ mod lent;
 mod orders;
 mod plain;
 mod programs;
+mod quotes;
 mod small;
 mod turns;
 mod words;
 
 use dohvrin::Link;
 use lent::Lent;
-use orders::{Order, BY_D, BY_N, MIDDLE, TABLE_1, TABLE_2, TERMINATED};
+use orders::{Order, BY_D, BY_N, MIDDLE, QUOTES, TABLE_1, TABLE_2, TERMINATED};
 use std::fmt::Debug;
 use std::process::ExitCode;
 use turns::{time, Turns};
@@ -34,6 +35,7 @@ fn main() -> ExitCode {
     match arguments.iter().map(String::as_str).collect::<Vec<_>>()[..] {
         [] => {
             searches(7);
+            shorter(21);
             runs(7);
             listings(7);
             collections(15, 101);
@@ -43,14 +45,16 @@ fn main() -> ExitCode {
         }
         ["--quick"] => {
             searches(1);
+            shorter(3);
             runs(1);
             collections(1, 11);
             calls(11);
             growth(1, &BY_N, &BY_D[..3]);
             small::slowest(50);
         }
+        ["--quotes"] => shorter(101),
         _ => {
-            eprintln!("usage: bench/run [--quick]");
+            eprintln!("usage: bench/run [--quick | --quotes]");
             return ExitCode::from(2);
         }
     }
@@ -61,6 +65,21 @@ fn searches(turns: usize) {
     head("The whole search", "paths", RACE);
     search(turns, name_of, &[TABLE_1, TABLE_2]);
     search(turns, name_of, &TERMINATED);
+}
+
+/// Shorter lengths from the events of an order.
+fn shorter(turns: usize) {
+    let sides = ["quote", "fresh search"];
+    let title = "A shorter length, from the events for N (its listing alone: without \
+                 collecting and choosing, which both do)";
+    head(title, "paths", sides);
+    for quote in QUOTES {
+        let (name, paths) = (name_of(&quote.long), quote.short.paths);
+        let times = quotes::beside_a_search(turns, quote);
+        let name = format!("{name} · quoted at {}", quote.short.bits);
+        row(&name, paths, &times.whole);
+        row("its listing alone", paths, &times.listing);
+    }
 }
 
 /// Whole runs of `dso-row`.

@@ -89,6 +89,26 @@ pub const BY_D: [Order; 4] = [
     TABLE_1,
 ];
 
+/// An order, and the same one with a shorter length.
+#[derive(Clone, Copy)]
+pub struct Quote {
+    pub long: Order,
+    pub short: Order,
+}
+
+/// All events of the first are short enough for its row; of the second 8,807 of
+/// 15,852 are.
+pub const QUOTES: [Quote; 2] = [
+    Quote {
+        long: BY_N[3],
+        short: BY_N[1],
+    },
+    Quote {
+        long: TABLE_1,
+        short: order_13_17(20, 18, 8_807, 225_866),
+    },
+];
+
 const fn order_13_17(bits: u64, d: u64, events: usize, paths: usize) -> Order {
     Order {
         link: Link::TailBiting,

@@ -3,7 +3,8 @@
   through the link of each: append, weigh, encode, damage, strip. Then it
   collects the events of each and prints the first of them, lists its paths
   (how many there are of each weight, and the heaviest of them), counts those
-  that pass the check unseen, and prints the row of the best polynomial.
+  that pass the check unseen, and prints the row of the best polynomial. At last
+  it quotes the row of the next shorter length from the same order's events.
   Without arguments it takes the eight records below.
 */
 #include <inttypes.h>
@@ -200,10 +201,9 @@ static void print_undetected(struct dohvrin_order order)
     putchar('\n');
 }
 
-/* The row of the best polynomial, or the refusal. 15: several are best. */
-static void print_row(struct dohvrin_order order)
+/* A row in these counts for this order, or the refusal. 15: several are best. */
+static void print_row(struct dohvrin_order order, struct dohvrin_row row)
 {
-    struct dohvrin_row row = dohvrin_search_in(order, tables);
     struct dohvrin_answer written;
 
     if (row.refusal != 0)
@@ -212,6 +212,30 @@ static void print_row(struct dohvrin_order order)
         written = dohvrin_row_text(order, row.events, row.paths, row.polynomial, counts, 64,
                                    undetected, 64, text, sizeof text);
     fwrite(text, 1, written.value, stdout);
+}
+
+/* How many events are in the table, which has zeros after them. */
+static size_t listed_events(void)
+{
+    size_t listed = 0;
+
+    while (listed < ENTRIES && events[listed].length != 0)
+        listed++;
+    return listed;
+}
+
+/* The row for N - 1 from the events for N, which stay in the table. 2: of a terminated link. */
+static void print_quote(struct dohvrin_order order)
+{
+    struct dohvrin_order shorter = order;
+    struct dohvrin_row row;
+
+    shorter.bits = order.bits - 1;
+    row = dohvrin_quote_in(order, shorter.bits, tables);
+    printf("  quoted for N %" PRIu64 "\n", shorter.bits);
+    print_row(shorter, row);
+    if (row.refusal == 0)
+        printf("  events in the table, for N %" PRIu64 ": %zu\n", order.bits, listed_events());
 }
 
 static int run_record(const char *hex)
@@ -239,7 +263,8 @@ static int run_record(const char *hex)
     print_events(order);
     print_paths(order);
     print_undetected(order);
-    print_row(order);
+    print_row(order, dohvrin_search_in(order, tables));
+    print_quote(order);
     return 1;
 }
 

@@ -125,7 +125,7 @@ module _ (table : List Event) (work : List ℕ) (from to : ℕ) (r : Ready table
           ]
         ]
 
-    module _ (N : ℕ) (seg : Segment table N from to) (N-small : N ≤ mostSteps) (counted : at ≤ room) where
+    module _ (seg : Segment table from to) (counted : at ≤ room) where
       -- no event before the first one is worth looking at
       pub beginning-skips : (x : ℕ) → from ≤ x → x < beginning work at room begun
           → Useless work (begun .steps) (begun .budget) (getD table x noEvent .length)
@@ -134,7 +134,7 @@ module _ (table : List Event) (work : List ℕ) (from to : ℕ) (r : Ready table
           let inside : x < to = omega arith in
           let lengths = seg .lengths x h inside in
           let long : 1 ≤ getD table x noEvent .length = lengths .0 in
-          let few : getD table x noEvent .length ≤ N = lengths .1 in
+          let few : getD table x noEvent .length ≤ mostSteps = lengths .1 in
           let e = beginning-found work at room begun (nextLength work (begun .steps) (begun .budget) 1) counted refl in
           length-skips (begun .steps) (begun .budget) 1 (getD table x noEvent .length) x long (omega arith)
           (r .placed x h inside .0) (subst (λ (y : ℕ). x < y) (sym e) before)
@@ -144,10 +144,10 @@ module _ (table : List Event) (work : List ℕ) (from to : ℕ) (r : Ready table
           → k < x → x < following work at room begun l k
           → Useless work (begun .steps) (begun .budget) (getD table x noEvent .length)
       following-skips k l x h g is after before =
-          let short-k : getD table k noEvent .length ≤ N = seg .lengths k h g .1 in
+          let short-k : getD table k noEvent .length ≤ mostSteps = seg .lengths k h g .1 in
           let last = following-bounds k l h g is (omega arith) .1 in
           let inside : x < to = omega arith in
-          let few : getD table x noEvent .length ≤ N = seg .lengths x (omega arith) inside .1 in
+          let few : getD table x noEvent .length ≤ mostSteps = seg .lengths x (omega arith) inside .1 in
           let placed = r .placed x (omega arith) inside in
           elim (lt-or-ge (k + 1) (startAt work (l + 1))) [
             | inl within ↦ let e = following-next work at room begun l k counted within in absurd (omega arith)

@@ -18,9 +18,8 @@ use Rattle.bounds.proofs.Carried.{highest, carried-at, highest-from, hi
 use Rattle.bounds.proofs.Placed.{Marks, place-at, place-after, places-end}
 
 -- the events of a segment can be noted
-pub segment-noteworthy : (table : List Event) (N from to : ℕ) → N ≤ mostSteps → from ≤ to
-    → Segment table N from to → Noteworthy table (to - from) from
-segment-noteworthy table N from to most le seg j h g =
+pub segment-noteworthy : (table : List Event) (from to : ℕ) → from ≤ to → Segment table from to → Noteworthy table (to - from) from
+segment-noteworthy table from to le seg j h g =
     let l = seg .lengths j h (omega arith) .1 in
     record { state-small = seg .states j h (omega arith); length-small = omega arith }
 
@@ -55,11 +54,11 @@ module _ (from : ℕ) (work : List ℕ) (small : Small work) where
       let few = small .bits-small in
       filled-step places k l (omega arith) (omega arith) p q (omega arith)
 
-module _ (table : List Event) (N from to : ℕ) (work : List ℕ) (seg : Segment table N from to) (is-bits : bitsAt work ≡ N)
-    (some : 1 ≤ N) (most : N ≤ mostSteps)
+module _ (table : List Event) (from to : ℕ) (work : List ℕ) (seg : Segment table from to)
+    (some : 1 ≤ bitsAt work) (most : bitsAt work ≤ mostSteps)
     (le : from ≤ to) (room : areaSize ≤ length work) (fill : (k : ℕ) → k ≤ mostSteps → fillAt work k ≤ tooHeavy) where
   noteworthy : Noteworthy table (to - from) from
-  noteworthy = segment-noteworthy table N from to most le seg
+  noteworthy = segment-noteworthy table from to le seg
 
   surveyed-state : List ℕ
   surveyed-state = surveyed table (to - from) from (opened to work)
@@ -115,7 +114,7 @@ module _ (table : List Event) (N from to : ℕ) (work : List ℕ) (seg : Segment
             omega arith;
         placed = λ k h g.
             let l : ℕ = getD table k noEvent .length in
-            let short : l ≤ N = seg .lengths k h g .1 in
+            let short : l ≤ mostSteps = seg .lengths k h g .1 in
             let a = start l (omega arith) in
             let b = start (l + 1) (omega arith) in
             let c = place-at table (λ e. e .length) lengthEnds from to survey segment-marks k h g in
@@ -123,7 +122,7 @@ module _ (table : List Event) (N from to : ℕ) (work : List ℕ) (seg : Segment
             (omega arith, omega arith);
         least-weighs = λ k h g.
             let l : ℕ = getD table k noEvent .length in
-            let short : l ≤ N = seg .lengths k h g .1 in
+            let short : l ≤ mostSteps = seg .lengths k h g .1 in
             let same : leastAt (closed from survey) l ≡ leastAt survey l = kept closing leasts tt l (omega arith) in
             let e = all in
             let w = survey-weighs table (to - from) from (opened to work) k size noteworthy h (omega arith) in

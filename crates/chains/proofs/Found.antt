@@ -20,6 +20,7 @@ use Rattle.lists.proofs.Choices.{cond-true, cond-false}
 use Rattle.events.specs.declared.Event.{Event}
 use Rattle.events.specs.Events.{ErrorEvent, noEvent}
 use Rattle.paths.specs.Model.Joining.{turns, firstOr, fitsIn, joining, joined}
+use Rattle.paths.proofs.Passed.{joining-more}
 use Rattle.paths.proofs.Pruned.{joined-drops}
 use Rattle.bounds.specs.declared.Chain.{Chain}
 use Rattle.bounds.specs.Model.Tables.{startAt, endAt, bitsAt, leastAt, fillAt, skipped, complete, decided}
@@ -141,18 +142,6 @@ module _ {table : List Event} {work : List ℕ} (joins : Joins table work) where
       (not-T (fitsIn left budget e) (λ t. let g = leb→le (e .length) left
       (T-and (leb (e .length) left) (leb (e .weight) budget) .0 t .0) in omega arith))
 
-  joining-same : (fuel fuel′ left acc first budget : ℕ) (e : ErrorEvent)
-      → joined fuel es N (left - e .length) (acc + e .input * 2 ^ (N - left)) (firstOr first (e .length))
-      (budget - e .weight) ≡ joined fuel′ es N (left - e .length) (acc + e .input * 2 ^ (N - left))
-      (firstOr first (e .length)) (budget - e .weight)
-      → joining N (joined fuel es N) left acc first budget e ≡ joining N (joined fuel′ es N) left acc first budget e
-  unfolding joining
-  joining-same fuel fuel′ left acc first budget e same =
-      let c′ : ℕ = acc + e .input * 2 ^ (N - left) in
-      let f′ : ℕ = firstOr first (e .length) in
-      ap (λ (rest : List ℕ). cond (fitsIn left budget e)
-      (cond (eqb (e .length) left) (cond (eqb (e .weight) budget) (turns N f′ c′) []) rest) []) same
-
   joined-fuel : (fuel fuel′ left acc first budget : ℕ) → left ≤ N → left ≤ fuel → left ≤ fuel′
       → joined fuel es N left acc first budget ≡ joined fuel′ es N left acc first budget
   unfolding joined
@@ -167,7 +156,7 @@ module _ {table : List Event} {work : List ℕ} (joins : Joins table work) where
       flatMap-cong-on (joining N (joined fuel es N) left acc first budget)
       (joining N (joined fuel′ es N) left acc first budget) es (λ e m.
       let some = some-step e m in
-      joining-same fuel fuel′ left acc first budget e (joined-fuel fuel fuel′ (left - e .length) (acc + e .input * 2 ^ (N - left))
+      joining-more N (joined fuel es N) (joined fuel′ es N) left acc first budget e (joined-fuel fuel fuel′ (left - e .length) (acc + e .input * 2 ^ (N - left))
       (firstOr first (e .length)) (budget - e .weight) (omega arith) (omega arith) (omega arith)))
 
   -- ---- what one event of the table finds, by the decision on it

@@ -1,7 +1,8 @@
--- Once the table holds an order's events and all are noted, the work area tells where each state's begin (`delimits-order`).
+-- Once the table holds an order's events, or those of the same order for longer words, and all are noted, the work area tells where each state's begin
+-- (`delimits-order`).
 -- Assumes nothing.
 use Prim.Native.Nat.{ℕ, _+_, _-_, _*_, _^_, _≤_, _<_}
-use native.Mathlib.Nat.{le-trans, lt-of-lt-of-le}
+use native.Mathlib.Nat.{le-trans, lt-of-lt-of-le, lt-of-le-of-lt, mul-le-mul-left}
 use native.Mathlib.Omega.{arith}
 use mathlib.Core.Path.{_≡_, refl, sym, ap, _∙_, subst}
 use mathlib.Core.Logic.{inl, inr}
@@ -10,8 +11,9 @@ use lib.ListN.{length, getD, replicate, length-replicate, List·getD-map, length
 use lib.Pow.{pow-mono}
 use Rattle.lists.proofs.Lengths.{getD-padded-inside}
 use Rattle.code.specs.Links.{stepsOf, eventStates}
-use Rattle.code.proofs.Links.{states-le}
+use Rattle.code.proofs.Links.{states-le, no-more-steps}
 use Rattle.order.specs.Order.{Order}
+use Rattle.order.specs.Model.Lengths.{NoLonger}
 use Rattle.events.specs.declared.Event.{Event}
 use Rattle.events.specs.Events.{ErrorEvent, events, entry, noEvent, eventTable}
 use Rattle.events.proofs.Listed.{Listed, Before, of-events, events-sorted}
@@ -24,9 +26,14 @@ use Rattle.chains.specs.Model.Chaining.{mostWeight, wordOf, Joinable, In
 use Rattle.chains.proofs.Slices.{getD-in, sorted-at}
 use Rattle.chains.proofs.Listed.{noErrorEvent, Delimits}
 
--- where the event ends a word, its input stays below 2^128
-abbrev pub InputWhole : Order → ErrorEvent → Type 0
-InputWhole o e = e .input * 2 ^ (stepsOf o - e .length) < 2 ^ 128
+-- where the event ends a word of T steps, its input stays below 2^128
+abbrev pub InputWhole : ℕ → ErrorEvent → Type 0
+InputWhole T e = e .input * 2 ^ (T - e .length) < 2 ^ 128
+
+whole-shorter : (T T′ : ℕ) (e : ErrorEvent) → T ≤ T′ → InputWhole T′ e → InputWhole T e
+whole-shorter T T′ e h whole =
+    let fewer : 2 ^ (T - e .length) ≤ 2 ^ (T′ - e .length) = pow-mono {i = T - e .length} {j = T′ - e .length} (omega arith) in
+    lt-of-le-of-lt (mul-le-mul-left (e .input) fewer) whole
 
 -- what an entry of the table says of its event
 entry-state : (e : ErrorEvent) → entry e .state ≡ e .state
@@ -37,17 +44,16 @@ entry-length : (e : ErrorEvent) → entry e .length ≡ e .length
 unfolding entry
 entry-length e = refl
 
-entry-joinable : (o : Order) (e : ErrorEvent) → o .d ≤ mostWeight → InputWhole o e → Listed o e → Joinable (stepsOf o) (entry e)
+entry-joinable : (c : Order) (T : ℕ) (e : ErrorEvent) → c .d ≤ mostWeight → InputWhole T e → Listed c e → Joinable T (entry e)
 unfolding entry
-entry-joinable o e light whole h =
+entry-joinable c T e light whole h =
     let b = h .below in
     record {
       some-step = h .some-step;
-      short = h .at-most-steps;
       light = omega arith;
       input-small = subst
           (λ (x : ℕ). x < 2 ^ e .length) (sym (halves (e .input))) (h .input-fits);
-      whole = subst (λ (x : ℕ). x * 2 ^ (stepsOf o - e .length) < 2 ^ 128) (sym (halves (e .input))) whole;
+      whole = subst (λ (x : ℕ). x * 2 ^ (T - e .length) < 2 ^ 128) (sym (halves (e .input))) whole;
     }
   where
     halves : (c : ℕ) → wordOf (entry (record { state = e .state; length = e .length; weight = e .weight; input = c })) ≡ c
@@ -62,24 +68,24 @@ before-lengths e f same (inl h) = absurd (omega arith)
 before-lengths e f same (inr (q, inl h)) = omega arith
 before-lengths e f same (inr (q, inr h)) = let l = h .0 in omega arith
 
-module _ (o : Order) (some-bits : 1 ≤ stepsOf o) (few-bits : stepsOf o ≤ mostSteps) (memory : o .v ≤ 8) (light : o .d ≤ mostWeight)
-    (whole : (e : ErrorEvent) → Listed o e → InputWhole o e)
-    (table : List Event) (size : ℕ) (room : areaSize ≤ size) (fits : length (events o) ≤ length table)
-    (entries : (k : ℕ) → k < length (events o) → getD table k noEvent ≡ entry (getD (events o) k noErrorEvent)) where
+module _ {o c : Order} (no-longer : NoLonger o c) (some-bits : 1 ≤ stepsOf o) (few-bits : stepsOf c ≤ mostSteps) (memory : c .v ≤ 8) (light : c .d ≤ mostWeight)
+    (whole : (e : ErrorEvent) → Listed c e → InputWhole (stepsOf c) e)
+    (table : List Event) (size : ℕ) (room : areaSize ≤ size) (fits : length (events c) ≤ length table)
+    (entries : (k : ℕ) → k < length (events c) → getD table k noEvent ≡ entry (getD (events c) k noErrorEvent)) where
   abbrev count : ℕ
-  count = length (events o)
+  count = length (events c)
 
   abbrev event : ℕ → ErrorEvent
-  event k = getD (events o) k noErrorEvent
+  event k = getD (events c) k noErrorEvent
 
   abbrev work : List ℕ
   work = indexed (stepsOf o) (surveyed table count 0 (replicate size 0))
 
-  few-states : eventStates o ≤ stateCount
-  few-states = le-trans (states-le o) (pow-mono {i = o .v} {j = 8} memory)
+  few-states : eventStates c ≤ stateCount
+  few-states = le-trans (states-le c) (pow-mono {i = c .v} {j = 8} memory)
 
-  known : (k : ℕ) → k < count → Listed o (event k)
-  known k h = of-events o (getD-in noErrorEvent (events o) k h)
+  known : (k : ℕ) → k < count → Listed c (event k)
+  known k h = of-events c (getD-in noErrorEvent (events c) k h)
 
   state-at : (k : ℕ) → k < count → getD table k noEvent .state ≡ event k .state
   state-at k h = ap (λ (e : Event). e .state) (entries k h) ∙ entry-state (event k)
@@ -88,10 +94,13 @@ module _ (o : Order) (some-bits : 1 ≤ stepsOf o) (few-bits : stepsOf o ≤ mos
   length-at k h = ap (λ (e : Event). e .length) (entries k h) ∙ entry-length (event k)
 
   before-at : (k l : ℕ) → k < l → l < count → Before (event k) (event l)
-  before-at k l h g = sorted-at noErrorEvent Before (events o) (events-sorted o) k l h g
+  before-at k l h g = sorted-at noErrorEvent Before (events c) (events-sorted c) k l h g
 
   state-small : (k : ℕ) → k < count → getD table k noEvent .state < stateCount
   state-small k h = subst (λ (x : ℕ). x < stateCount) (sym (state-at k h)) (lt-of-lt-of-le (known k h .state-fits) few-states)
+
+  length-few : (k : ℕ) → k < count → event k .length ≤ mostSteps
+  length-few k h = le-trans (known k h .at-most-steps) few-bits
 
   pub noteworthy : Noteworthy table count 0
   noteworthy k h g =
@@ -99,7 +108,7 @@ module _ (o : Order) (some-bits : 1 ≤ stepsOf o) (few-bits : stepsOf o ≤ mos
       record {
         state-small = state-small k in-table;
         length-small = subst (λ (x : ℕ). x ≤ mostSteps) (sym (length-at k in-table))
-            (le-trans (known k in-table .at-most-steps) few-bits);
+            (length-few k in-table);
       }
 
   ordered : (k l : ℕ) → k < l → l < count → getD table k noEvent .state ≤ getD table l noEvent .state
@@ -118,14 +127,13 @@ module _ (o : Order) (some-bits : 1 ≤ stepsOf o) (few-bits : stepsOf o ≤ mos
   bits-are : bitsAt work ≡ stepsOf o
   bits-are = states-bits table count (stepsOf o) size room noteworthy ordered
 
-  segment : (i : ℕ) → i < stateCount → Segment table (stepsOf o) (firstOf work i) (firstOf work (i + 1))
+  segment : (i : ℕ) → i < stateCount → Segment table (firstOf work i) (firstOf work (i + 1))
   segment i h = record {
     states = λ k a b. state-small k (in-table k b);
     lengths = λ k a b.
         let e = known k (in-table k b) in (
           subst (λ (x : ℕ). 1 ≤ x) (sym (length-at k (in-table k b))) (e .some-step),
-          subst (λ (x : ℕ). x ≤ stepsOf o)
-              (sym (length-at k (in-table k b))) (e .at-most-steps),
+          subst (λ (x : ℕ). x ≤ mostSteps) (sym (length-at k (in-table k b))) (length-few k (in-table k b)),
         );
     ordered = λ k l a c b.
         let k-in : k < count = in-table k (omega arith) in
@@ -146,20 +154,22 @@ module _ (o : Order) (some-bits : 1 ≤ stepsOf o) (few-bits : stepsOf o ≤ mos
         let b = surveyed-keeps table count 0 (replicate size 0) noteworthy .size in let c =
         length-replicate {A = ℕ} size 0 in omega (arith, a, b, c, room);
     some-bits = subst (λ (x : ℕ). 1 ≤ x) (sym bits-are) some-bits;
-    few-bits = subst (λ (x : ℕ). x ≤ mostSteps) (sym bits-are) few-bits;
+    few-bits = subst (λ (x : ℕ). x ≤ mostSteps) (sym bits-are) (le-trans (no-more-steps no-longer) few-bits);
     fill-small = λ k h. let z = states-fill table count (stepsOf o) size room noteworthy ordered k h in omega (arith, z);
     rises = firstOf-rises table count (stepsOf o) size room noteworthy ordered;
     inside = le-trans (last stateCount (omega arith)) fits;
-    segment = λ i h. subst (λ (x : ℕ). Segment table x (firstOf work i) (firstOf work (i + 1))) (sym bits-are) (segment i h);
+    segment = segment;
     joinable = λ k h.
         let in-table : k < count = lt-of-lt-of-le h (last stateCount (omega arith)) in
         subst (λ (x : ℕ). Joinable x (getD table k noEvent)) (sym bits-are) (subst (Joinable (stepsOf o)) (sym (entries k in-table))
-        (entry-joinable o (event k) light (whole (event k) (known k in-table)) (known k in-table)));
+        (entry-joinable c (stepsOf o) (event k) light
+        (whole-shorter (stepsOf o) (stepsOf c) (event k) (no-more-steps no-longer) (whole (event k) (known k in-table))) (known k in-table)));
   }
 
-  pub delimits-order : Delimits o table work
+  pub delimits-order : Delimits o c table work
   delimits-order = record {
     indexed = index;
+    no-longer = no-longer;
     bits = bits-are;
     few-states = few-states;
     entries = entries;

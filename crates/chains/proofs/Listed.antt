@@ -1,8 +1,8 @@
--- What the chaining finds is what the model of the recursion joins (`paths`' specs/Model/Joining.antt), where the table holds an order's events and the work
--- area tells where each state's begin: state by state (`found-is-stateWords`), and over all states that begin events
--- (`foundFrom-is-chainWords`).
+-- What the chaining finds is what the model of the recursion joins (`paths`' specs/Model/Joining.antt), where the table holds the events of an order c, the
+-- order itself or the same for longer words, and the work area tells where each state's begin: state by state (`found-is-stateWords`), and over all
+-- states that begin events (`foundFrom-is-chainWords`).
 -- Assumes nothing.
-use Prim.Native.Nat.{ℕ, zero, suc, _+_, _-_, _^_, _≤_, _<_}
+use Prim.Native.Nat.{ℕ, zero, suc, _+_, _-_, _≤_, _<_}
 use native.Mathlib.Nat.{lt-of-lt-of-le}
 use native.Mathlib.Numerals.{add-one}
 use native.Mathlib.Omega.{arith}
@@ -13,15 +13,17 @@ use lib.Pow.{split}
 use lib.ListN.{length, getD}
 use Rattle.lists.specs.Lists.{upFrom}
 use Rattle.lists.proofs.Member.{upFrom-bounds, in-upFrom}
-use Rattle.lists.proofs.Sorted.{Sorted, sorted-known, upFrom-sorted}
-use Rattle.lists.proofs.Keys.{By, ByThen, by-asymmetric, byThen-asymmetric, blocks-sorted}
+use Rattle.lists.proofs.Sorted.{Sorted, sorted-known}
 use Rattle.code.specs.Links.{stepsOf, eventStates}
+use Rattle.code.proofs.Links.{same-states}
 use Rattle.order.specs.Order.{Order}
+use Rattle.order.specs.Model.Lengths.{NoLonger}
 use Rattle.events.specs.declared.Event.{Event}
-use Rattle.events.specs.Events.{ErrorEvent, eventsOfLength, eventsOfState, events, entry, noEvent}
-use Rattle.events.proofs.Listed.{Before, of-events, in-events, of-eventsOfLength, eventsOfLength-sorted, events-sorted}
+use Rattle.events.specs.Events.{ErrorEvent, eventsOfState, events, entry, noEvent}
+use Rattle.events.proofs.Listed.{Within, Before, within-asymmetric, of-events, in-events, eventsOfState-sorted, events-sorted}
 use Rattle.events.proofs.OfState.{EventOf, mem-eventsOfState}
 use Rattle.paths.specs.Model.Joining.{joined, unbegunFirst, stateWords, chainWords}
+use Rattle.paths.proofs.Passed.{stateWords-among}
 use Rattle.bounds.specs.Model.Places.{stateCount}
 use Rattle.bounds.specs.Model.Tables.{firstOf, bitsAt}
 use Rattle.chains.specs.Model.Chaining.{errorEvent, atHand, atState, afterStates, found, foundFrom, unbegun, Indexed}
@@ -31,14 +33,15 @@ use Rattle.chains.proofs.States.{start-atState, end-atState, bits-atSta
 abbrev pub noErrorEvent : ErrorEvent
 noErrorEvent = record { state = 0; length = 0; weight = 0; input = 0 }
 
--- the table begins with the order's events, and the work area tells where each state's stand
-pub record Delimits (o : Order) (table : List Event) (work : List ℕ) : Type 0 where
+-- the table begins with the events of c, and the work area tells where each state's stand; its words are those of o
+pub record Delimits (o c : Order) (table : List Event) (work : List ℕ) : Type 0 where
   pub indexed : Indexed table work
+  pub no-longer : NoLonger o c
   pub bits : bitsAt work ≡ stepsOf o
-  pub few-states : eventStates o ≤ stateCount
-  pub entries : (k : ℕ) → k < length (events o) → getD table k noEvent ≡ entry (getD (events o) k noErrorEvent)
-  pub last : (i : ℕ) → i ≤ stateCount → firstOf work i ≤ length (events o)
-  pub placed : (k : ℕ) → k < length (events o)
+  pub few-states : eventStates c ≤ stateCount
+  pub entries : (k : ℕ) → k < length (events c) → getD table k noEvent ≡ entry (getD (events c) k noErrorEvent)
+  pub last : (i : ℕ) → i ≤ stateCount → firstOf work i ≤ length (events c)
+  pub placed : (k : ℕ) → k < length (events c)
       → (firstOf work (getD table k noEvent .state) ≤ k) × (k < firstOf work (getD table k noEvent .state + 1))
   pub between : (k s : ℕ) → s < stateCount → firstOf work s ≤ k → k < firstOf work (s + 1) → getD table k noEvent .state ≡ s
 
@@ -53,29 +56,17 @@ unfolding entry
 state-entry e = refl
 
 -- ---- the events of a state, by length and input
-abbrev Within : ErrorEvent → ErrorEvent → Type 0
-Within = ByThen (λ e. e .length) (By (λ e. e .input))
-
-within-asymmetric : (e f : ErrorEvent) → Within e f → Within f e → ⊥
-within-asymmetric = byThen-asymmetric (λ e. e .length) (By (λ e. e .input)) (by-asymmetric (λ e. e .input))
 
 within-state : (e f : ErrorEvent) → e .state ≡ f .state → Before e f → Within e f
 within-state e f same (inl less) = absurd (omega arith)
 within-state e f same (inr h) = h .1
 
-state-sorted : (o : Order) (i : ℕ) → Sorted Within (eventsOfState o i)
-unfolding eventsOfState
-state-sorted o i =
-    blocks-sorted (λ e. e .length) (By (λ e. e .input)) (eventsOfLength o i)
-    (λ l e m. sym (ap (λ (f : ErrorEvent). f .length) (of-eventsOfLength o i l m .3)))
-    (eventsOfLength-sorted o i) (upFrom 1 (stepsOf o)) (upFrom-sorted 1 (stepsOf o))
-
-module _ (o : Order) (table : List Event) (work : List ℕ) (d : Delimits o table work) where
+module _ (o c : Order) (table : List Event) (work : List ℕ) (d : Delimits o c table work) where
   abbrev count : ℕ
-  count = length (events o)
+  count = length (events c)
 
   abbrev event : ℕ → ErrorEvent
-  event k = getD (events o) k noErrorEvent
+  event k = getD (events c) k noErrorEvent
 
   -- the event at a place of the table
   read : ℕ → ErrorEvent
@@ -88,7 +79,7 @@ module _ (o : Order) (table : List Event) (work : List ℕ) (d : Delimits o tabl
   state-is : (k : ℕ) → k < count → getD table k noEvent .state ≡ event k .state
   state-is k h = ap (λ (e : Event). e .state) (d .entries k h) ∙ state-entry (event k)
 
-  module _ (i : ℕ) (low : i < eventStates o) where
+  module _ (i : ℕ) (low : i < eventStates c) where
     inside : i < stateCount
     inside = lt-of-lt-of-le low (d .few-states)
 
@@ -116,28 +107,28 @@ module _ (o : Order) (table : List Event) (work : List ℕ) (d : Delimits o tabl
         range-sorted Within read from (to - from) (λ k l h g m.
         let k-in : k < count = before-count k (omega arith) in
         let l-in : l < count = before-count l m in
-        let b : Before (event k) (event l) = sorted-at noErrorEvent Before (events o) (events-sorted o) k l g l-in in
+        let b : Before (event k) (event l) = sorted-at noErrorEvent Before (events c) (events-sorted c) k l g l-in in
         let w : Within (event k) (event l) =
         within-state (event k) (event l) (of-state k h (omega arith) ∙ sym (of-state l (omega arith) m)) b in
         subst (λ (x : ErrorEvent). Within x (read l)) (sym (read-is k k-in)) (subst (Within (event k)) (sym (read-is l l-in)) w))
 
-    of-slice : (e : ErrorEvent) → List·Memᴰ e slice → EventOf o i e
+    of-slice : (e : ErrorEvent) → List·Memᴰ e slice → EventOf c i e
     unfolding slice
     of-slice e m =
         let h = Memᴰ·of-map read (upFrom from (to - from)) m in
         let b = upFrom-bounds from (to - from) (h .1) in
         let at : h .0 < count = before-count (h .0) (b .1) in
         let is : event (h .0) ≡ e = sym (read-is (h .0) at) ∙ h .2 in
-        subst (EventOf o i) is record {
+        subst (EventOf c i) is record {
           state-is = of-state (h .0) (b .0) (b .1);
-          event = of-events o
-              (getD-in noErrorEvent (events o) (h .0) at);
+          event = of-events c
+              (getD-in noErrorEvent (events c) (h .0) at);
         }
 
-    in-slice : (e : ErrorEvent) → EventOf o i e → List·Memᴰ e slice
+    in-slice : (e : ErrorEvent) → EventOf c i e → List·Memᴰ e slice
     unfolding slice
     in-slice e h =
-        let p : PlaceOf noErrorEvent (events o) e = place-of noErrorEvent (events o) (in-events o (h .event)) in
+        let p : PlaceOf noErrorEvent (events c) e = place-of noErrorEvent (events c) (in-events c (h .event)) in
         let k : ℕ = p .place in
         let same : getD table k noEvent .state ≡ i =
         state-is k (p .inside) ∙ ap (λ (x : ErrorEvent). x .state) (p .is) ∙ h .state-is in
@@ -147,12 +138,12 @@ module _ (o : Order) (table : List Event) (work : List ℕ) (d : Delimits o tabl
         subst (λ (x : ErrorEvent). List·Memᴰ x (map read (upFrom from (to - from)))) (read-is k (p .inside) ∙ p .is)
         (Memᴰ·map read (in-upFrom from (to - from) a (omega arith)))
 
-    slice-is : slice ≡ eventsOfState o i
+    slice-is : slice ≡ eventsOfState c i
     slice-is =
-        sorted-known Within within-asymmetric (EventOf o i) slice (eventsOfState o i) slice-sorted (state-sorted o i)
-        (λ e. (of-slice e, in-slice e)) (λ e. mem-eventsOfState o i e low)
+        sorted-known Within within-asymmetric (EventOf c i) slice (eventsOfState c i) slice-sorted (eventsOfState-sorted c i)
+        (λ e. (of-slice e, in-slice e)) (λ e. mem-eventsOfState c i e low)
 
-    pub at-hand-is : atHand table (atState table i work) ≡ eventsOfState o i
+    pub at-hand-is : atHand table (atState table i work) ≡ eventsOfState c i
     unfolding atHand slice read
     at-hand-is =
         ap₂ (λ (x y : ℕ). map (λ k. errorEvent (getD table k noEvent)) (upFrom x (y - x))) (start-atState (d .indexed) i inside)
@@ -163,15 +154,17 @@ module _ (o : Order) (table : List Event) (work : List ℕ) (d : Delimits o tabl
     found-is-stateWords w =
         ap₂ (λ (es : List ErrorEvent) (N : ℕ). joined (bitsAt work) es N (bitsAt work) 0 (unbegunFirst o) w) at-hand-is
         (bits-atState (d .indexed) i inside)
-        ∙ ap (λ (N : ℕ). joined N (eventsOfState o i) N N 0 (unbegunFirst o) w) (d .bits)
+        ∙ ap (λ (N : ℕ). joined N (eventsOfState c i) N N 0 (unbegunFirst o) w) (d .bits)
+        ∙ stateWords-among (d .no-longer) i w low
 
     -- the next state finds the same index
-    pub delimits-next : Delimits o table (atState table i work)
+    pub delimits-next : Delimits o c table (atState table i work)
     delimits-next =
         let same : (j : ℕ) → j ≤ stateCount → firstOf (atState table i work) j ≡ firstOf work j =
         first-atState (d .indexed) i inside in
         record {
           indexed = indexed-at-state (d .indexed) i inside;
+          no-longer = d .no-longer;
           bits = bits-atState (d .indexed) i inside ∙ d .bits;
           few-states = d .few-states;
           entries = d .entries;
@@ -179,7 +172,7 @@ module _ (o : Order) (table : List Event) (work : List ℕ) (d : Delimits o tabl
           placed = λ k h.
               let s : ℕ = getD table k noEvent .state in
               let s-in : s < stateCount = subst (λ (x : ℕ). x < stateCount) (sym (state-is k h))
-              (lt-of-lt-of-le (of-events o (getD-in noErrorEvent (events o) k h) .state-fits) (d .few-states)) in
+              (lt-of-lt-of-le (of-events c (getD-in noErrorEvent (events c) k h) .state-fits) (d .few-states)) in
               let at = d .placed k h in (
                 subst (λ (x : ℕ). x ≤ k) (sym (same s (omega arith))) (at .0),
                 subst (λ (x : ℕ). k < x)
@@ -190,28 +183,28 @@ module _ (o : Order) (table : List Event) (work : List ℕ) (d : Delimits o tabl
         }
 
 -- n states from state i on
-found-from : (o : Order) (table : List Event) (w n i : ℕ) (work : List ℕ) → Delimits o table work → i + n ≤ eventStates o
+found-from : (o c : Order) (table : List Event) (w n i : ℕ) (work : List ℕ) → Delimits o c table work → i + n ≤ eventStates c
     → foundFrom table (unbegunFirst o) w n i work ≡ flatMap (λ j. stateWords o j w) (upFrom i n)
 unfolding foundFrom upFrom flatMap
-found-from o table w zero i work d h = refl
-found-from o table w (suc n) i work d h =
-    let low : i < eventStates o = omega arith in
-    ap₂ _++_ (found-is-stateWords o table work d i low w)
-    (ap (λ (x : ℕ). foundFrom table (unbegunFirst o) w n x (atState table i work)) (add-one i) ∙ found-from o table w n (suc i)
-    (atState table i work) (delimits-next o table work d i low) (omega arith))
+found-from o c table w zero i work d h = refl
+found-from o c table w (suc n) i work d h =
+    let low : i < eventStates c = omega arith in
+    ap₂ _++_ (found-is-stateWords o c table work d i low w)
+    (ap (λ (x : ℕ). foundFrom table (unbegunFirst o) w n x (atState table i work)) (add-one i) ∙ found-from o c table w n (suc i)
+    (atState table i work) (delimits-next o c table work d i low) (omega arith))
 
 -- the index stays, however many states were at hand
-pub delimits-after : (o : Order) (table : List Event) (n i : ℕ) (work : List ℕ) → Delimits o table work → i + n ≤ eventStates o
-    → Delimits o table (afterStates table n i work)
+pub delimits-after : (o c : Order) (table : List Event) (n i : ℕ) (work : List ℕ) → Delimits o c table work → i + n ≤ eventStates c
+    → Delimits o c table (afterStates table n i work)
 unfolding afterStates
-delimits-after o table zero i work d h = d
-delimits-after o table (suc n) i work d h =
-    delimits-after o table n (i + 1) (atState table i work) (delimits-next o table work d i (omega arith)) (omega arith)
+delimits-after o c table zero i work d h = d
+delimits-after o c table (suc n) i work d h =
+    delimits-after o c table n (i + 1) (atState table i work) (delimits-next o c table work d i (omega arith)) (omega arith)
 
-pub foundFrom-is-chainWords : (o : Order) (table : List Event) (work : List ℕ) (w : ℕ) → Delimits o table work
+pub foundFrom-is-chainWords : (o c : Order) (table : List Event) (work : List ℕ) (w : ℕ) → Delimits o c table work
     → foundFrom table (unbegunFirst o) w (eventStates o) 0 work ≡ chainWords o w
 unfolding chainWords
-foundFrom-is-chainWords o table work w d = found-from o table w (eventStates o) 0 work d (all (eventStates o))
+foundFrom-is-chainWords o c table work w d = found-from o c table w (eventStates o) 0 work d (all (eventStates o) (eventStates c) (same-states (d .no-longer)))
   where
-    all : (x : ℕ) → 0 + x ≤ x
-    all x = omega arith
+    all : (x y : ℕ) → x ≡ y → 0 + x ≤ y
+    all x y e = omega arith

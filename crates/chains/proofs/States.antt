@@ -3,7 +3,7 @@
 use Prim.Native.Nat.{ℕ, _+_, _-_, _≤_, _<_}
 use native.Mathlib.Nat.{le-trans}
 use native.Mathlib.Omega.{arith}
-use mathlib.Core.Path.{_≡_, refl, sym, subst}
+use mathlib.Core.Path.{_≡_, sym, subst}
 use mathlib.Core.List.{List}
 use lib.ListN.{length, getD}
 use Rattle.events.specs.declared.Event.{Event}
@@ -28,28 +28,28 @@ module _ {table : List Event} {work : List ℕ} (ix : Indexed table work) (i : �
   last : to ≤ firstOf work stateCount
   last = ix .rises (i + 1) stateCount (omega arith) (omega arith)
 
-  seg : Segment table (bitsAt work) from to
+  seg : Segment table from to
   seg = ix .segment i inside
 
   noteworthy : Noteworthy table (to - from) from
-  noteworthy = segment-noteworthy table (bitsAt work) from to (ix .few-bits) rising seg
+  noteworthy = segment-noteworthy table from to rising seg
 
   -- its events can be noted
   pub state-noted : Noted table from to
   state-noted = record {
     inside = le-trans last (ix .inside);
-    fits = λ k h g. record { state-small = seg .states k h g; length-small = le-trans (seg .lengths k h g .1) (ix .few-bits) };
+    fits = λ k h g. record { state-small = seg .states k h g; length-small = seg .lengths k h g .1 };
   }
 
   -- and the tables closed
   pub state-small : Small (surveyed table (to - from) from (opened to work))
   state-small =
-      segment-small table (bitsAt work) from to work seg refl (ix .some-bits) (ix .few-bits) rising (ix .enough) (ix .fill-small)
+      segment-small table from to work seg (ix .some-bits) (ix .few-bits) rising (ix .enough) (ix .fill-small)
 
   pub state-ready : Ready table (atState table i work) from to
   unfolding atState
   state-ready =
-      ready table (bitsAt work) from to work seg refl (ix .some-bits) (ix .few-bits) rising (ix .enough) (ix .fill-small)
+      ready table from to work seg (ix .some-bits) (ix .few-bits) rising (ix .enough) (ix .fill-small)
 
   pub length-atState : length (atState table i work) ≡ length work
   unfolding atState
@@ -78,11 +78,10 @@ module _ {table : List Event} {work : List ℕ} (ix : Indexed table work) (i : �
       let l = last in
       subst (λ (N : ℕ). Joinable N (getD table k noEvent)) (sym bits-atState) (ix .joinable k (omega arith))
 
-  state-segment : Segment table (bitsAt (atState table i work)) (startAt (atState table i work) 0) (endAt (atState table i work))
+  state-segment : Segment table (startAt (atState table i work) 0) (endAt (atState table i work))
   state-segment =
-      subst (λ (N : ℕ). Segment table N (startAt (atState table i work) 0) (endAt (atState table i work))) (sym bits-atState)
-      (subst (λ (x : ℕ). Segment table (bitsAt work) x (endAt (atState table i work))) (sym start-atState)
-      (subst (λ (x : ℕ). Segment table (bitsAt work) from x) (sym end-atState) seg))
+      subst (λ (x : ℕ). Segment table x (endAt (atState table i work))) (sym start-atState)
+      (subst (λ (x : ℕ). Segment table from x) (sym end-atState) seg)
 
   pub joins-at-state : Joins table (atState table i work)
   joins-at-state = record {
@@ -95,14 +94,10 @@ module _ {table : List Event} {work : List ℕ} (ix : Indexed table work) (i : �
 
   -- the states' places are as they were
   kept-segment : (j : ℕ) → j < stateCount
-      → Segment table (bitsAt (atState table i work)) (firstOf (atState table i work) j) (firstOf (atState table i work) (j + 1))
+      → Segment table (firstOf (atState table i work) j) (firstOf (atState table i work) (j + 1))
   kept-segment j h =
-      subst (λ (N : ℕ). Segment table N (firstOf (atState table i work) j) (firstOf (atState table i work) (j + 1)))
-      (sym bits-atState)
-      (subst (λ (x : ℕ). Segment table (bitsAt work) x (firstOf (atState table i work) (j + 1)))
-      (sym (first-atState j (omega arith)))
-      (subst (λ (x : ℕ). Segment table (bitsAt work) (firstOf work j) x)
-      (sym (first-atState (j + 1) (omega arith))) (ix .segment j h)))
+      subst (λ (x : ℕ). Segment table x (firstOf (atState table i work) (j + 1))) (sym (first-atState j (omega arith)))
+      (subst (λ (x : ℕ). Segment table (firstOf work j) x) (sym (first-atState (j + 1) (omega arith))) (ix .segment j h))
 
   pub indexed-at-state : Indexed table (atState table i work)
   indexed-at-state =

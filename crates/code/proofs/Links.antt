@@ -10,6 +10,7 @@ use native.Mathlib.Nat.{le-refl, mod-eq-of-lt, mod-lt}
 use native.Mathlib.Decide.{decLt}
 use native.Mathlib.Omega.{arith}
 use lib.Count.{ones}
+use lib.Dec.{eqb}
 use lib.Pow.{pow-pos, pow-mono, split}
 use Rattle.lists.specs.Lists.{upFrom}
 use Rattle.lists.proofs.Blocks.{flatMap-cong-on, map-cong-on}
@@ -17,8 +18,9 @@ use Rattle.poly.specs.Poly.{bit, fromBits, _⊗_, remainder}
 use Rattle.poly.proofs.Bits.{bit-above, bit-zero, bit-low, eq-by-bits, fromBits-cong}
 use Rattle.poly.proofs.Product.{⊗-lt}
 use Rattle.poly.proofs.Remainder.{remainder-small}
-use Rattle.order.specs.Order.{Order}
+use Rattle.order.specs.Order.{Order, withLength}
 use Rattle.order.specs.Model.Accepted.{AcceptedCode}
+use Rattle.order.specs.Model.Lengths.{NoLonger}
 use Rattle.code.specs.Links.{terminated, stepsOf, output, eventStates}
 use Rattle.code.specs.Weight.{weightOf, weight, codeword}
 use Rattle.code.specs.Trellis.{place, stateAt}
@@ -87,6 +89,19 @@ module _ (o : Order) where
 
     pub some-steps : 0 < stepsOf o
     some-steps = let a = memory-fits in let b = acc .some-memory in omega arith
+
+  -- for shorter words: fewer steps, the same states
+  pub steps-shorter : (N : ℕ) → N ≤ o .N → stepsOf (withLength N o) ≤ stepsOf o
+  unfolding stepsOf terminated withLength
+  steps-shorter N h = by (eqb (o .version) 2)
+    where
+      by : (b : Bool) → cond b (N + o .v) N ≤ cond b (o .N + o .v) (o .N)
+      by true = omega arith
+      by false = h
+
+  pub states-alike : (N : ℕ) → eventStates (withLength N o) ≡ eventStates o
+  unfolding eventStates terminated withLength
+  states-alike N = refl
 
   -- ---- either sends products modulo x^T + 1
 
@@ -210,3 +225,16 @@ module _ (o : Order) where
 
   pub zero-begins : {i : ℕ} → i < eventStates o → terminated o ≡ true → i ≡ 0
   zero-begins h t = let e = states-terminated o t in omega arith
+
+-- ---- an order and the same for longer words
+
+module _ {o c : Order} (h : NoLonger o c) where
+  pub no-more-steps : stepsOf o ≤ stepsOf c
+  no-more-steps = subst (λ (x : Order). stepsOf x ≤ stepsOf c) (sym (h .same)) (steps-shorter c (o .N) (h .at-most))
+
+  pub same-states : eventStates o ≡ eventStates c
+  same-states = ap eventStates (h .same) ∙ states-alike c (o .N)
+
+  pub same-threshold : o .d ≡ c .d
+  unfolding withLength
+  same-threshold = ap (λ (x : Order). x .d) (h .same)

@@ -9,6 +9,7 @@ ghost use Rattle.code.specs.Calls.{weighCall, encodeCall};
 ghost use Rattle.collection.specs.Calls.{eventTables, collectCall};
 ghost use Rattle.listing.specs.Calls.{pathTables, listCall};
 ghost use Rattle.search.specs.Calls.{searchTables, searchCall, countCall};
+ghost use Rattle.quote.specs.Calls.{quoteCall};
 ghost use Rattle.answers.specs.Answers.{numberAnswer, wordAnswer, told, toldWith, strippedAnswer, testedAnswer, numbered, pathsAnswer, rowAnswer, partAnswer, orderAnswer};
 use answers::HostAnswer;
 use answers::ListAnswer;
@@ -39,6 +40,7 @@ use order::record::read_order;
 use paths::part;
 use paths::paths_before;
 use poly::word::make;
+use quote::quote;
 use search::count;
 use search::search;
 use text::write_refusal;
@@ -149,6 +151,22 @@ pub extern "C" fn dohvrin_search(
     ensures { λ r. ⌜ (r, searchTables (now (events .exit)) (now (paths .exit)) (now (plain .exit)) (now (undetected .exit)) (now (work .exit))) ≡ rowAnswer (searchCall (orderIn order) (searchTables (now (events .entry)) (now (paths .entry)) (now (plain .entry)) (now (undetected .entry)) (now (work .entry)))) ⌝ }
 {
     searched(search(order, events, paths, plain, undetected, work))
+}
+
+// The best check polynomial for words of `bits` bits, with the events of the order's own length.
+#[no_mangle]
+pub extern "C" fn dohvrin_quote(
+    order: OrderRecord,
+    bits: u64,
+    events: &mut [Event],
+    paths: &mut [u64],
+    plain: &mut [u64],
+    undetected: &mut [u64],
+    work: &mut [u64],
+) -> SearchAnswer
+    ensures { λ r. ⌜ (r, searchTables (now (events .exit)) (now (paths .exit)) (now (plain .exit)) (now (undetected .exit)) (now (work .exit))) ≡ rowAnswer (quoteCall (orderIn order) bits (searchTables (now (events .entry)) (now (paths .entry)) (now (plain .entry)) (now (undetected .entry)) (now (work .entry)))) ⌝ }
+{
+    searched(quote(order, bits, events, paths, plain, undetected, work))
 }
 
 // The undetected counts of one polynomial.

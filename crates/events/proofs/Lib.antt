@@ -3,3 +3,4 @@ pub mod Listed
 pub mod OfState
 pub mod Plains
 pub mod Records
+pub mod Shorter

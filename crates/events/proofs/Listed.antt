@@ -27,9 +27,13 @@ pub record Listed (o : Order) (e : ErrorEvent) : Type 0 where
   pub weighs : e .weight ≡ walkWeight (o .generators) (o .v) (e .length) (e .state) (e .input)
   pub below : e .weight < o .d
 
--- by state, then length, then input number
+-- by length, then input number
+abbrev pub Within : ErrorEvent → ErrorEvent → Type 0
+Within = ByThen (λ e. e .length) (By (λ e. e .input))
+
+-- by state, then so
 abbrev pub Before : ErrorEvent → ErrorEvent → Type 0
-Before = ByThen (λ e. e .state) (ByThen (λ e. e .length) (By (λ e. e .input)))
+Before = ByThen (λ e. e .state) Within
 
 -- the walk of l steps from i with input number c, as an event
 abbrev pub eventOf : Order → ℕ → ℕ → ℕ → ErrorEvent
@@ -106,7 +110,7 @@ module _ (o : Order) where
   length-of-events : (i l : ℕ) (e : ErrorEvent) → List·Memᴰ e (eventsOfLength o i l) → e .length ≡ l
   length-of-events i l e m = sym (ap (λ (f : ErrorEvent). f .length) (of-eventsOfLength i l m .3))
 
-  eventsOfState-sorted : (i : ℕ) → Sorted (ByThen (λ e. e .length) (By (λ (e : ErrorEvent). e .input))) (eventsOfState o i)
+  pub eventsOfState-sorted : (i : ℕ) → Sorted Within (eventsOfState o i)
   unfolding eventsOfState
   eventsOfState-sorted i =
       blocks-sorted (λ e. e .length) (By (λ e. e .input)) (eventsOfLength o i) (length-of-events i)
@@ -120,14 +124,15 @@ module _ (o : Order) where
   pub events-sorted : Sorted Before (events o)
   unfolding events
   events-sorted =
-      blocks-sorted (λ e. e .state) (ByThen (λ e. e .length) (By (λ e. e .input))) (eventsOfState o) state-of-events eventsOfState-sorted (upFrom 0 (eventStates o))
+      blocks-sorted (λ e. e .state) Within (eventsOfState o) state-of-events eventsOfState-sorted (upFrom 0 (eventStates o))
       (upFrom-sorted 0 (eventStates o))
 
 -- no two events stand both before and after one another
+pub within-asymmetric : (e f : ErrorEvent) → Within e f → Within f e → ⊥
+within-asymmetric = byThen-asymmetric (λ e. e .length) (By (λ e. e .input)) (by-asymmetric (λ e. e .input))
+
 pub before-asymmetric : (e f : ErrorEvent) → Before e f → Before f e → ⊥
-before-asymmetric =
-    byThen-asymmetric (λ e. e .state) (ByThen (λ e. e .length) (By (λ e. e .input)))
-    (byThen-asymmetric (λ e. e .length) (By (λ e. e .input)) (by-asymmetric (λ e. e .input)))
+before-asymmetric = byThen-asymmetric (λ e. e .state) Within within-asymmetric
 
 -- a list in that order with these members is the list of events
 pub events-unique : (o : Order) (l : List ErrorEvent) → Sorted Before l → ((e : ErrorEvent) → List·Memᴰ e l ↔ Listed o e) → l ≡ events o

@@ -1,8 +1,9 @@
-// The entries of the event table: one is read, one is stored, and all are cleared.
+// The entries of the event table: one is read, one is stored, all are cleared, and those of few steps are counted.
 ghost use mathlib.Core.Path.{_≡_};
-ghost use Prim.Native.Nat.{_<_};
+ghost use Prim.Native.Nat.{_+_, _≤_, _<_, _^_};
 ghost use lib.ListN.{length, getD, set, replicate};
 ghost use Rattle.events.specs.Events.{noEvent};
+ghost use Rattle.events.specs.Model.Counting.{countWithin, oneMore};
 
 // An entry of the event table: document 01's record of state, length, weight and the input in two halves, low half first.
 #[repr(C)]
@@ -44,4 +45,30 @@ pub fn clear_events(table: &mut [Event])
         put_event(table, i, zero);
         i += 1;
     }
+}
+
+// One more, where e has at most so many steps.
+fn one_more(found: usize, e: Event, steps: u64) -> usize
+    requires { ⌜ found + 1 < 2 ^ 64 ⌝ }
+    ensures { λ r. ⌜ r ≡ oneMore found e steps ⌝ }
+{
+    if e.length <= steps {
+        return found + 1;
+    }
+    found
+}
+
+// How many of the first n entries have at most so many steps.
+pub fn count_within(events: &[Event], n: usize, steps: u64) -> usize
+    requires { ⌜ n ≤ length (now events) ⌝ }
+    ensures { λ r. ⌜ r ≡ countWithin (now (events .entry)) n steps ⌝ }
+{
+    let mut found = 0;
+    let mut k = 0;
+    while k < n {
+        let e = event_at(events, k);
+        found = one_more(found, e, steps);
+        k += 1;
+    }
+    found
 }

@@ -43,20 +43,24 @@ unfoldable pub listQuestions : Order → (plain size : ℕ) → List Question
 listQuestions o plain size = orderQuestions T.Threshold o ++ (room (o .d) plain ∷ room workSize size ∷ [])
 
 -- Questions 13 and 14: are there at most as many events, and paths, as their tables take? If not, all that is lent is set to zero.
-unfoldable pub unlessTooMany : {A L : Type 0} → Order → (entries numbers : ℕ) → L → Answer A × L → Answer A × L
-unlessTooMany {A} {L} o entries numbers zeros outcome =
+-- Events may be collected for a longer order than the one whose paths are listed (document 02, C-13); else both are the same.
+unfoldable pub unlessTooMany : {A L : Type 0} → (longer o : Order) → (entries numbers : ℕ) → L → Answer A × L → Answer A × L
+unlessTooMany {A} {L} longer o entries numbers zeros outcome =
     let pathsFit : Answer A × L = cond (leb (length (paths o)) (pathRoom numbers)) outcome (refused 14, zeros) in
-    cond (leb (length (events o)) entries) pathsFit (refused 13, zeros)
+    cond (leb (length (events longer)) entries) pathsFit (refused 13, zeros)
 
 unfoldable pub clearedPaths : PathTables → PathTables
 clearedPaths t = pathTables (cleared noEvent (t .events)) (cleared 0 (t .paths)) (cleared 0 (t .plain)) (cleared 0 (t .work))
 
 -- an accepted call leaves the lists with zeros after them, and the work area zero
-unfoldable pub filledPaths : Order → PathTables → PathTables
-filledPaths o t = pathTables (eventTable (length (t .events)) o) (pathTable (length (t .paths)) o) (padded (length (t .plain)) 0 (plainCounts o)) (cleared 0 (t .work))
+unfoldable pub filledPaths : (longer o : Order) → PathTables → PathTables
+filledPaths longer o t =
+    pathTables (eventTable (length (t .events)) longer) (pathTable (length (t .paths)) o) (padded (length (t .plain)) 0 (plainCounts o)) (cleared 0 (t .work))
 
-unfoldable pub listed : Order → PathTables → Answer Listing × PathTables
-listed o t = unlessTooMany o (length (t .events)) (length (t .paths)) (clearedPaths t) (accepted (listing (length (events o)) (length (paths o))), filledPaths o t)
+unfoldable pub listed : (longer o : Order) → PathTables → Answer Listing × PathTables
+listed longer o t =
+    unlessTooMany longer o (length (t .events)) (length (t .paths)) (clearedPaths t)
+    (accepted (listing (length (events o)) (length (paths o))), filledPaths longer o t)
 
 unfoldable pub listCall : Order → PathTables → Answer Listing × PathTables
-listCall o t = unlessRefused (firstNo (listQuestions o (length (t .plain)) (length (t .work)))) t (listed o t)
+listCall o t = unlessRefused (firstNo (listQuestions o (length (t .plain)) (length (t .work)))) t (listed o o t)

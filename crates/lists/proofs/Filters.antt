@@ -1,5 +1,5 @@
--- What passes a test: of two lists one after the other, of a list made by a function, by two tests that agree; and how many pass, over lists and over
--- the places from a to before b, where one place more adds one or nothing.
+-- What passes a test: of two lists one after the other, of a list made by a function, by two tests that agree; members that may be left out. And how
+-- many pass, over lists and over the places from a to before b, where one place more adds one or nothing.
 -- Assumes nothing.
 use Prim.Native.Nat.{ℕ, suc, _+_, _-_, _≤_}
 use native.Mathlib.Nat.{le-refl}
@@ -7,8 +7,9 @@ use native.Mathlib.Decide.{le-ind}
 use native.Mathlib.Numerals.{add-one}
 use native.Mathlib.Omega.{arith}
 use mathlib.Core.Path.{_≡_, refl, sym, ap, ap₂, _∙_}
-use mathlib.Core.Bool.{Bool, true, false, cond, _&&_}
-use mathlib.Core.List.{List, [], _∷_, _++_, map, List·Memᴰ, List·Memᴰ·head, List·Memᴰ·tail}
+use mathlib.Core.Bool.{Bool, true, false, cond, not, _&&_}
+use mathlib.Core.List.{List, [], _∷_, _++_, map, flatMap, List·Memᴰ, List·Memᴰ·head, List·Memᴰ·tail}
+use lib.Dec.{T}
 use lib.ListN.{length}
 use Rattle.lists.specs.Lists.{upFrom, filter, count}
 use Rattle.lists.proofs.Lengths.{length-filter-le, length-upFrom, upFrom-last}
@@ -46,6 +47,18 @@ module _ {A : Type 0} (f : A → Bool) where
   pub filter-one : (x : A) (b : Bool) → f x ≡ b → filter f (x ∷ []) ≡ cond b (x ∷ []) []
   unfolding filter
   filter-one x b e = ap (λ (c : Bool). cond c (x ∷ []) []) e
+
+-- members that give nothing may be left out
+pub flatMap-filter : {A B : Type 0} (f : A → List B) (test : A → Bool) → ((x : A) → T (not (test x)) → f x ≡ []) → (xs : List A)
+    → flatMap f xs ≡ flatMap f (filter test xs)
+unfolding flatMap filter
+flatMap-filter f test none [] = refl
+flatMap-filter f test none (x ∷ xs) =
+    ap (λ l. f x ++ l) (flatMap-filter f test none xs) ∙ by (test x) (none x)
+  where
+    by : (b : Bool) → (T (not b) → f x ≡ []) → f x ++ flatMap f (filter test xs) ≡ flatMap f (cond b (x ∷ filter test xs) (filter test xs))
+    by true n = refl
+    by false n = ap (λ l. l ++ flatMap f (filter test xs)) (n tt)
 
 -- ---- how many pass
 

@@ -130,10 +130,10 @@ module _ {A : Type 0} (z : A) where
   getD-padded n xs i = getD-filled xs (n - length xs) i
 
 -- what stands at the places of a block
-pub block-at : (xs ys zs : List ℕ) → map (λ k. getD (xs ++ (ys ++ zs)) k 0) (upFrom (length xs) (length ys)) ≡ ys
-block-at xs ys zs =
-    let at : ℕ → ℕ = λ k. getD (xs ++ (ys ++ zs)) k 0 in
+pub block-at : {A : Type 0} (z : A) (xs ys zs : List A) → map (λ k. getD (xs ++ (ys ++ zs)) k z) (upFrom (length xs) (length ys)) ≡ ys
+block-at {A} z xs ys zs =
+    let at : ℕ → A = λ k. getD (xs ++ (ys ++ zs)) k z in
     let n : length (map at (upFrom (length xs) (length ys))) ≡ length ys = length-map-upFrom at (length xs) (length ys) in
-    ext-getD 0 (map at (upFrom (length xs) (length ys))) ys n
+    ext-getD z (map at (upFrom (length xs) (length ys))) ys n
     (λ i h. let g : i < length ys = omega arith in
-    getD-map-upFrom at (length xs) (length ys) i 0 g ∙ getD-append-add xs (ys ++ zs) i 0 ∙ List·getD-append ys zs 0 i g)
+    getD-map-upFrom at (length xs) (length ys) i z g ∙ getD-append-add xs (ys ++ zs) i z ∙ List·getD-append ys zs z i g)

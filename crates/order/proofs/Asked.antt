@@ -149,13 +149,15 @@ module _ (r : OrderRecord) (acc : AcceptedCode (orderIn r)) where
 
 -- ---- asked part by part, as the code does
 
-module _ (takes : Takes) (r : OrderRecord) (s : ℕ) (es : s ≡ firstNo (shapeQuestions (r .version) (r .n) (r .v) (r .bits))) where
-  shape-asked : s ≡ firstNo (shapeQuestions (r .version) (length (orderIn r .generators)) (r .v) (r .bits))
-  shape-asked = es ∙ ap (λ (n : ℕ). firstNo (shapeQuestions (r .version) n (r .v) (r .bits))) (sym (length-orderIn r))
+-- the struct's n is how many generators the order has
+pub shape-asked : (r : OrderRecord) (s : ℕ) → s ≡ firstNo (shapeQuestions (r .version) (r .n) (r .v) (r .bits))
+    → s ≡ firstNo (shapeQuestions (r .version) (length (orderIn r .generators)) (r .v) (r .bits))
+shape-asked r s es = es ∙ ap (λ (n : ℕ). firstNo (shapeQuestions (r .version) n (r .v) (r .bits))) (sym (length-orderIn r))
 
+module _ (takes : Takes) (r : OrderRecord) (s : ℕ) (es : s ≡ firstNo (shapeQuestions (r .version) (r .n) (r .v) (r .bits))) where
   pub refused-by-shape : (s ≡ 0 → ⊥) → s ≡ firstNo (orderQuestions takes (orderIn r))
   unfolding orderQuestions orderIn
-  refused-by-shape n = refused-first _ _ s (numbered-shape _ _ _ _) shape-asked n
+  refused-by-shape n = refused-first _ _ s (numbered-shape _ _ _ _) (shape-asked r s es) n
 
   module _ (zs : s ≡ 0) where
     pub shape-of : Shaped (r .version) (r .n) (r .v) (r .bits)
@@ -164,10 +166,10 @@ module _ (takes : Takes) (r : OrderRecord) (s : ℕ) (es : s ≡ firstNo (shapeQ
     module _ (x : ℕ) (ex : x ≡ firstNo (numberQuestions takes (orderIn r))) where
       pub refused-by-numbers : (x ≡ 0 → ⊥) → x ≡ firstNo (orderQuestions takes (orderIn r))
       unfolding orderQuestions orderIn
-      refused-by-numbers n = refused-later _ _ s x (numbered-shape _ _ _ _) shape-asked zs (refused-first _ _ x (numbered-numbers takes (orderIn r)) ex n)
+      refused-by-numbers n = refused-later _ _ s x (numbered-shape _ _ _ _) (shape-asked r s es) zs (refused-first _ _ x (numbered-numbers takes (orderIn r)) ex n)
 
       pub all-asked : x ≡ 0 → (y : ℕ) → y ≡ firstNo (generatorQuestions (r .v) (take (r .n) (r .g1 ∷ r .g2 ∷ r .g3 ∷ r .g4 ∷ []))) → y ≡ firstNo (orderQuestions takes (orderIn r))
       unfolding orderQuestions orderIn
       all-asked zx y ey =
-          refused-later _ _ s y (numbered-shape _ _ _ _) shape-asked zs
+          refused-later _ _ s y (numbered-shape _ _ _ _) (shape-asked r s es) zs
           (refused-later _ _ x y (numbered-numbers takes (orderIn r)) ex zx (ey ∙ ap (λ (gs : List ℕ). firstNo (generatorQuestions (r .v) gs)) (generators-in r (shape-of .few-generators))))

@@ -6,11 +6,12 @@ use mathlib.Core.List.{List, [], _∷_, _++_}
 use mathlib.Core.Logic.{_↔_}
 use Prim.Native.Nat.{ℕ, zero, suc}
 use native.Mathlib.Nat.{suc-ne-zero}
+use native.Mathlib.Omega.{arith}
 use lib.Dec.{T, T-not, ltb, eqb}
 use Rattle.lists.proofs.Tests.{T-and}
 use Rattle.lists.proofs.Choices.{eqb-passes}
 use Rattle.order.specs.Questions.{Question, firstNo}
-use Rattle.order.specs.Answer.{Answer, refused, unless, unlessRefused}
+use Rattle.order.specs.Answer.{Answer, accepted, refused, refusedWith, unless, unlessRefused}
 
 -- the first number, or where it is 0 the second
 abbrev pub orElse : ℕ → ℕ → ℕ
@@ -93,6 +94,13 @@ module _ {A L : Type 0} (lent : L) (outcome : Answer A × L) where
   pub leaves-answered : (n : ℕ) → 0 ≡ n → outcome ≡ unlessRefused n lent outcome
   unfolding unlessRefused
   leaves-answered n e = ap (λ (k : ℕ). unlessRefused k lent outcome) e
+
+-- a refusal is no other answer
+pub refused-not-accepted : {A : Type 0} (r : ℕ) (x : A) → refused r ≡ accepted x → ⊥
+refused-not-accepted r x same = let z : _≡_ {A = ℕ} 0 1 = cc in omega arith
+
+pub refused-not-with : {A : Type 0} (r k added : ℕ) → _≡_ {A = Answer A} (refused r) (refusedWith k added) → ⊥
+refused-not-with r k added same = let z : _≡_ {A = ℕ} 0 1 = cc in omega arith
 
 -- ---- no refusal: every question says yes
 

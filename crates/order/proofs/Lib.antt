@@ -3,3 +3,4 @@ pub mod FirstNo
 pub mod Asked
 pub mod SharedFactor
 pub mod Records
+pub mod Lengths

@@ -26,6 +26,10 @@ pub record Order : Type 0 where
   -- n of them, the first first
   pub generators : List ℕ
 
+-- the same for words of N bits
+unfoldable pub withLength : ℕ → Order → Order
+withLength N o = record { version = o .version; v = o .v; N = N; m = o .m; d = o .d; generators = o .generators }
+
 -- ---- the questions about an order
 
 -- 6 and 7, as far as a call takes them: the code alone, a threshold too, or everything

@@ -4,7 +4,7 @@ ghost use mathlib.Core.List.{[], _∷_};
 ghost use Prim.Native.Nat.{_<_, _≤_};
 ghost use lib.ListN.{length, getD, take};
 ghost use Rattle.order.specs.Questions.{firstNo, checkDegree, threshold, generatorQuestions};
-ghost use Rattle.order.specs.Order.{be16, lengthRight, versionRight, countRight, read, recordQuestions, numberQuestions, orderQuestions};
+ghost use Rattle.order.specs.Order.{withLength, be16, lengthRight, versionRight, countRight, read, recordQuestions, numberQuestions, orderQuestions};
 ghost use Rattle.order.specs.Answers.{orderIn, readingOf};
 ghost use Rattle.order.specs.Model.Fields.{fieldsOf};
 use super::questions::Takes;
@@ -31,6 +31,24 @@ pub struct OrderRecord {
 pub enum Reading {
     Order(OrderRecord),
     Refused(u64),
+}
+
+// The same order for words of `bits` bits.
+pub fn with_length(bits: u64, order: OrderRecord) -> OrderRecord
+    ensures { λ r. ⌜ orderIn r ≡ withLength bits (orderIn order) ⌝ }
+{
+    OrderRecord {
+        version: order.version,
+        n: order.n,
+        v: order.v,
+        bits,
+        m: order.m,
+        d: order.d,
+        g1: order.g1,
+        g2: order.g2,
+        g3: order.g3,
+        g4: order.g4,
+    }
 }
 
 // The byte at i; 0 past the end.

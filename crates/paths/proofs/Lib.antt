@@ -7,3 +7,4 @@ pub mod Arises
 pub mod Words
 pub mod Pruned
 pub mod Theorem
+pub mod Passed

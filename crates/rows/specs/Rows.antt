@@ -1,4 +1,4 @@
--- Document 01's rows marked ●, as document 02 (C-11, C-12) left them, as one table: what is asked, and every figure of the answer. `proofs/Hold.antt` has
+-- Document 01's rows marked ●, as document 02 (C-11 to C-13) left them, as one table: what is asked, and every figure of the answer. `proofs/Hold.antt` has
 -- the one theorem, that each line's figures are what the definitions give. Where a document leaves a figure out, the line states it all the same.
 -- Polynomials are in hexadecimal, the rest in decimal, as in the document. Code S has v = 1 and generators 1, 3. Links are tail-biting where it is not
 -- said that they are terminated.
@@ -11,16 +11,19 @@ use Rattle.code.specs.Weight.{weight}
 use Rattle.order.specs.Questions.{firstNo, workSize}
 use Rattle.order.specs.Order.{Order, orderQuestions}
 use Rattle.order.specs.declared.questions.Takes.the-variants as T
+use Rattle.events.specs.declared.Event.{Event}
 use Rattle.events.specs.Events.{ErrorEvent, events, noEvent}
 use Rattle.paths.specs.Paths.{paths, plainCounts}
 use Rattle.order.specs.Answer.{Answer, accepted, refused, refusedWith}
 use Rattle.search.specs.Calls.{Found, found, SearchTables, searchTables, searchCall}
+use Rattle.quote.specs.Calls.{quoteCall}
 
--- what a line asks: the row of an order; what the search answers and leaves of what it is lent; the first question about an order that says no,
--- or 0; the weight of a word; the word of a message
+-- what a line asks: the row of an order; what the search, and quoting the length N′, answer and leave of what they are lent; the first question about an
+-- order that says no, or 0; the weight of a word; the word of a message
 pub data Ask : Type 0 where
   row : Order → Ask
   searched : Order → SearchTables → Ask
+  quoted : Order → (N′ : ℕ) → SearchTables → Ask
   question : Order → Ask
   weigh : Order → (word : ℕ) → Ask
   word : (N m polynomial message : ℕ) → Ask
@@ -50,6 +53,7 @@ figuresOf o =
 unfoldable pub told : Ask → Told
 told (row o) = figures (figuresOf o)
 told (searched o t) = answer-and-tables (searchCall o t)
+told (quoted o N′ t) = answer-and-tables (quoteCall o N′ t)
 told (question o) = a-number (firstNo (orderQuestions T.Everything o))
 told (weigh o u) = a-number (weight o u)
 told (word N m p f) = an-answer (appendCall N m p f)
@@ -84,11 +88,18 @@ line v N m d gs = lineOf (order 1 v N m d gs)
 abbrev S : List ℕ
 S = 1 ∷ 3 ∷ []
 
--- tables that are lent with something in every place
+-- an entry of the event table: state, length, weight, and the input's low half; the other is 0
+abbrev entry : ℕ → ℕ → ℕ → ℕ → Event
+entry s l w c = record { state = s; length = l; weight = w; low = c; high = 0 }
+
+-- tables that are lent with something in every place: for so many events, paths and weights
+unfoldable pub filledWith7 : (entries paths weights : ℕ) → SearchTables
+filledWith7 entries paths weights =
+    searchTables (replicate entries (record { state = 7; length = 7; weight = 7; low = 7; high = 7 })) (replicate (2 * paths) 7)
+    (replicate weights 7) (replicate weights 7) (replicate workSize 7)
+
 unfoldable pub marked : SearchTables
-marked =
-    searchTables (replicate 2 (record { state = 7; length = 7; weight = 7; low = 7; high = 7 })) (replicate 4 7)
-    (7 ∷ []) (7 ∷ []) (replicate workSize 7)
+marked = filledWith7 2 2 1
 
 unfoldable pub rows : List Line
 rows =
@@ -144,6 +155,25 @@ rows =
     ∷ (weigh (code 1 1 3 S) 7, a-number 3)
     -- version 3: refusal 2, before any question about the generators, and nothing lent is changed
     ∷ (searched (order 3 1 2 1 1 []) marked, answer-and-tables (refused 2, marked))
+    -- S, N=4, quoted N'=3, m=2, d=6: 4 events, 7 paths, 0x5, and 5 events are left in the table
+    ∷ (
+      quoted (order 1 1 4 2 6 S) 3 (filledWith7 6 8 7),
+      answer-and-tables (
+        accepted (found 4 7 0x5),
+        searchTables (entry 0 1 0 0 ∷ entry 0 2 3 1 ∷ entry 0 3 4 3 ∷ entry 0 4 5 7 ∷ entry 1 1 1 1 ∷ entry 0 0 0 0 ∷ [])
+            (1 ∷ 0 ∷ 2 ∷ 0 ∷ 4 ∷ 0 ∷ 7 ∷ 0 ∷ 3 ∷ 0 ∷ 5 ∷ 0 ∷ 6 ∷ 0 ∷ 0 ∷ 0 ∷ [])
+            (0 ∷ 0 ∷ 0 ∷ 4 ∷ 3 ∷ 0 ∷ 0 ∷ []) (0 ∷ 0 ∷ 0 ∷ 0 ∷ 1 ∷ 0 ∷ 0 ∷ []) (replicate workSize 0),
+      ),
+    )
+    -- N'=5 is above N: refusal 5; N'=2 is not above m: refusal 6; a terminated link: refusal 2; nothing lent is changed
+    ∷ (quoted (order 1 1 4 2 6 S) 5 (filledWith7 6 8 7), answer-and-tables (refused 5, filledWith7 6 8 7))
+    ∷ (quoted (order 1 1 4 2 6 S) 2 (filledWith7 6 8 7), answer-and-tables (refused 6, filledWith7 6 8 7))
+    ∷ (quoted (order 2 1 4 2 6 S) 3 (filledWith7 6 8 7), answer-and-tables (refused 2, filledWith7 6 8 7))
+    -- four entries take the events for N'=3, but not those for N=4: refusal 13, and all is zero
+    ∷ (
+      quoted (order 1 1 4 2 6 S) 3 (filledWith7 4 8 7),
+      answer-and-tables (refused 13, searchTables (replicate 4 noEvent) (replicate 16 0) (replicate 7 0) (replicate 7 0) (replicate workSize 0)),
+    )
     -- m=2, N=4: message 1 under 0x7 gives word 7; message 3 under 0x5 gives word 15
     ∷ (word 4 2 0x7 1, an-answer (accepted 7))
     ∷ (word 4 2 0x5 3, an-answer (accepted 15))

@@ -31,7 +31,7 @@ use Rattle.search.specs.declared.Searched.{Searched}
 use Rattle.search.specs.declared.Searched.the-variants as S
 use Rattle.search.specs.declared.Job.{Job}
 use Rattle.search.specs.declared.Job.the-variants as J
-use Rattle.search.specs.Calls.{Found, found, searchedAs, SearchTables, searchTables, clearedSearch, filledSearch, chosen}
+use Rattle.search.specs.Calls.{Found, found, searchedAs, SearchTables, searchTables, clearedSearch, filledSearch, chosen, searched}
 use Rattle.search.specs.Model.Steps.{refusalOf, foundOf, answerOf, listedOf, Finished, ToFinish, jobDone, ran, ToRun}
 
 -- ---- what the listing answered
@@ -65,13 +65,14 @@ found-told (L.Paths e′ k′) p e k h =
 found-told (L.Refused k′) p e k h = absurd (let z : _≡_ {A = ℕ} 0 1 = cc in omega arith)
 
 -- everything was listed
-pub record Whole (o : Order) (lent : PathTables) (c : Listed) (left : PathTables) : Type 0 where
-  pub events-fit : length (events o) ≤ length (lent .events)
+pub record Whole (l o : Order) (lent : PathTables) (c : Listed) (left : PathTables) : Type 0 where
+  pub events-fit : length (events l) ≤ length (lent .events)
   pub paths-fit : length (paths o) ≤ pathRoom (length (lent .paths))
   pub answer : listedAs c ≡ accepted (listing (length (events o)) (length (paths o)))
-  pub tables : left ≡ filledPaths o lent
+  pub tables : left ≡ filledPaths l o lent
 
-module _ (o : Order) (t : SearchTables) (c : Listed) (left : PathTables) where
+-- events collected for l, a row for o
+module _ (l o : Order) (t : SearchTables) (c : Listed) (left : PathTables) where
   abbrev lent : PathTables
   lent = pathTables (t .events) (t .paths) (t .plain) (t .work)
 
@@ -91,22 +92,22 @@ module _ (o : Order) (t : SearchTables) (c : Listed) (left : PathTables) where
   tables-of : {a : Answer Listing} {x : PathTables} → Ends a x → left ≡ x
   tables-of e = ap (λ (y : Ended). y .1) e
 
-  module _ (told : _≡_ {A = Ended} (listedAs c, left) (listed o lent)) where
-    as-13 : ne < length (events o) → Ends (refused 13) (clearedPaths lent)
+  module _ (told : _≡_ {A = Ended} (listedAs c, left) (listed l o lent)) where
+    as-13 : ne < length (events l) → Ends (refused 13) (clearedPaths lent)
     unfolding listed
-    as-13 h = told ∙ sym (too-many-events o ne np (clearedPaths lent) _ h)
+    as-13 h = told ∙ sym (too-many-events l o ne np (clearedPaths lent) _ h)
 
-    as-14 : length (events o) ≤ ne → pathRoom np < length (paths o) → Ends (refused 14) (clearedPaths lent)
+    as-14 : length (events l) ≤ ne → pathRoom np < length (paths o) → Ends (refused 14) (clearedPaths lent)
     unfolding listed
-    as-14 f h = told ∙ sym (too-many-paths o ne np (clearedPaths lent) _ f h)
+    as-14 f h = told ∙ sym (too-many-paths l o ne np (clearedPaths lent) _ f h)
 
-    as-whole : length (events o) ≤ ne → length (paths o) ≤ pathRoom np
-        → Ends (accepted (listing (length (events o)) (length (paths o)))) (filledPaths o lent)
+    as-whole : length (events l) ≤ ne → length (paths o) ≤ pathRoom np
+        → Ends (accepted (listing (length (events o)) (length (paths o)))) (filledPaths l o lent)
     unfolding listed
-    as-whole f h = told ∙ sym (all-fit o ne np (clearedPaths lent) _ f h)
+    as-whole f h = told ∙ sym (all-fit l o ne np (clearedPaths lent) _ f h)
 
-    pub listed-whole : refusalOf c ≡ 0 → Whole o lent c left
-    listed-whole zero-told = elim (lt-or-ge ne (length (events o))) [
+    pub listed-whole : refusalOf c ≡ 0 → Whole l o lent c left
+    listed-whole zero-told = elim (lt-or-ge ne (length (events l))) [
       | inl more ↦ let k = refusal-is c 13 (answer-of (as-13 more)) in absurd (omega arith)
       | inr fits ↦ elim (lt-or-ge (pathRoom np) (length (paths o))) [
         | inl more ↦ let k = refusal-is c 14 (answer-of (as-14 fits more)) in absurd (omega arith)
@@ -125,18 +126,18 @@ module _ (o : Order) (t : SearchTables) (c : Listed) (left : PathTables) where
           paired (ap refused (refusal-is c k (answer-of e))) (ap₂ beside (tables-of e) zeros)
 
       pub not-listed : (refusalOf c ≡ 0 → ⊥)
-          → _≡_ {A = Told A} (refused (refusalOf c), beside left after) (unlessTooMany o ne np (clearedSearch t) outcome)
-      not-listed some-no = elim (lt-or-ge ne (length (events o))) [
-        | inl more ↦ cleared-all 13 (as-13 more) ∙ too-many-events o ne np (clearedSearch t) outcome more
+          → _≡_ {A = Told A} (refused (refusalOf c), beside left after) (unlessTooMany l o ne np (clearedSearch t) outcome)
+      not-listed some-no = elim (lt-or-ge ne (length (events l))) [
+        | inl more ↦ cleared-all 13 (as-13 more) ∙ too-many-events l o ne np (clearedSearch t) outcome more
         | inr fits ↦ elim (lt-or-ge (pathRoom np) (length (paths o))) [
-          | inl more ↦ cleared-all 14 (as-14 fits more) ∙ too-many-paths o ne np (clearedSearch t) outcome fits more
+          | inl more ↦ cleared-all 14 (as-14 fits more) ∙ too-many-paths l o ne np (clearedSearch t) outcome fits more
           | inr room ↦ absurd (some-no (refusal-zero c _ (answer-of (as-whole fits room))))
         ]
       ]
 
   -- ---- what is counted over the tables that a whole listing left
 
-  module _ (job : Job) (may : ToRun job o (t .plain) (t .undetected) (t .work)) (all : Whole o lent c left) where
+  module _ (job : Job) (may : ToRun job l o (t .plain) (t .undetected) (t .work)) (all : Whole l o lent c left) where
     abbrev nc : ℕ
     nc = length (t .plain)
 
@@ -194,13 +195,13 @@ module _ (o : Order) (t : SearchTables) (c : Listed) (left : PathTables) where
       abbrev done : SearchTables
       done = beside left after
 
-      tables-left : (counts : List ℕ) → after ≡ padded nu 0 counts → done ≡ filledSearch o counts t
+      tables-left : (counts : List ℕ) → after ≡ padded nu 0 counts → done ≡ filledSearch l o counts t
       unfolding filledSearch filledPaths
       tables-left counts e = ap₂ beside (all .tables) e
 
       -- question 15: one is left, or several
       module _ (r : Outcome) (chose : Chose (o .m) (o .d) table plain before after r) where
-        chosen-left : done ≡ filledSearch o (undetectedCounts o (r .polynomial)) t
+        chosen-left : done ≡ filledSearch l o (undetectedCounts o (r .polynomial)) t
         chosen-left = tables-left _ (chosen-counts o divided-left chose ∙ laid-left (r .polynomial))
 
         -- the answer, by whether one is left
@@ -216,25 +217,30 @@ module _ (o : Order) (t : SearchTables) (c : Listed) (left : PathTables) where
         unfolding answerOf
         several-told n = ap by (false-of-T-not (eqb (r .left) 1) (eqb-fails (r .left) 1 n))
 
-        is-chosen : _≡_ {A = Told Found} (searchedAs (answerOf c r), done) (chosen o t (choice o))
+        is-chosen : _≡_ {A = Told Found} (searchedAs (answerOf c r), done) (chosen l o t (choice o))
         unfolding chosen
         is-chosen = elim (ℕ-discrete (r .left) 1) [
-          | yes e ↦ paired (one-told e) chosen-left ∙ ap (chosen o t) (sym (chosen-one o divided-left chose e))
-          | no n ↦ paired (several-told n) chosen-left ∙ ap (chosen o t) (sym (chosen-tie o divided-left chose n))
+          | yes e ↦ paired (one-told e) chosen-left ∙ ap (chosen l o t) (sym (chosen-one o divided-left chose e))
+          | no n ↦ paired (several-told n) chosen-left ∙ ap (chosen l o t) (sym (chosen-tie o divided-left chose n))
         ]
 
       -- the job is done
       is-done : (s : Searched) (j : Job) → Finished j (o .m) (o .d) c table plain before after s
-          → _≡_ {A = Told Found} (searchedAs s, done) (jobDone j o t)
+          → _≡_ {A = Told Found} (searchedAs s, done) (jobDone j l o t)
       unfolding Finished jobDone
       is-done s J.Choose (x, chose, e) = ap (λ (y : Searched). (searchedAs y, done)) e ∙ is-chosen x chose
       is-done s (J.Count p) (counts, e) =
           paired (ap searchedAs e ∙ found-told c p _ _ (all .answer)) (tables-left _ (counts ∙ counted-left p))
 
       pub ran-done : (s : Searched) → Finished job (o .m) (o .d) c table plain before after s
-          → _≡_ {A = Told Found} (searchedAs s, done) (ran job o t)
+          → _≡_ {A = Told Found} (searchedAs s, done) (ran job l o t)
       unfolding ran
-      ran-done s f = is-done s job f ∙ all-fit o ne np (clearedSearch t) (jobDone job o t) (all .events-fit) (all .paths-fit)
+      ran-done s f = is-done s job f ∙ all-fit l o ne np (clearedSearch t) (jobDone job l o t) (all .events-fit) (all .paths-fit)
+
+-- the choice is the search
+pub ran-choose : (l o : Order) (t : SearchTables) (job : Job) → job ≡ J.Choose → ran job l o t ≡ searched l o t
+unfolding ran jobDone searched
+ran-choose l o t job e = ap (λ (j : Job). ran j l o t) e
 
 -- ---- the counting: its answer is the listing's
 
@@ -252,22 +258,22 @@ abbrev forgetting : Told Found → Told Listing
 forgetting (a, x) = (forget a, x)
 
 module _ (o : Order) (ne np : ℕ) (zeros : SearchTables) (outcome : Told Found) where
-  forget-13-14 : forgetting (unlessTooMany o ne np zeros outcome) ≡ unlessTooMany o ne np zeros (forgetting outcome)
+  forget-13-14 : forgetting (unlessTooMany o o ne np zeros outcome) ≡ unlessTooMany o o ne np zeros (forgetting outcome)
   forget-13-14 = elim (lt-or-ge ne (length (events o))) [
-    | inl more ↦ ap forgetting (sym (too-many-events o ne np zeros outcome more)) ∙ too-many-events o ne np zeros (forgetting outcome) more
+    | inl more ↦ ap forgetting (sym (too-many-events o o ne np zeros outcome more)) ∙ too-many-events o o ne np zeros (forgetting outcome) more
     | inr fits ↦ elim (lt-or-ge (pathRoom np) (length (paths o))) [
       | inl more ↦
-          ap forgetting (sym (too-many-paths o ne np zeros outcome fits more))
-          ∙ too-many-paths o ne np zeros (forgetting outcome) fits more
-      | inr room ↦ ap forgetting (sym (all-fit o ne np zeros outcome fits room)) ∙ all-fit o ne np zeros (forgetting outcome) fits room
+          ap forgetting (sym (too-many-paths o o ne np zeros outcome fits more))
+          ∙ too-many-paths o o ne np zeros (forgetting outcome) fits more
+      | inr room ↦ ap forgetting (sym (all-fit o o ne np zeros outcome fits room)) ∙ all-fit o o ne np zeros (forgetting outcome) fits room
     ]
   ]
 
 pub counted-as : (o : Order) (p : ℕ) (t left : SearchTables) (r : Searched)
-    → _≡_ {A = Told Found} (searchedAs r, left) (ran (J.Count p) o t)
+    → _≡_ {A = Told Found} (searchedAs r, left) (ran (J.Count p) o o t)
     → _≡_ {A = Told Listing} (listedAs (listedOf r), left)
-    (unlessTooMany o (length (t .events)) (length (t .paths)) (clearedSearch t)
-    (accepted (listing (length (events o)) (length (paths o))), filledSearch o (undetectedCounts o p) t))
+    (unlessTooMany o o (length (t .events)) (length (t .paths)) (clearedSearch t)
+    (accepted (listing (length (events o)) (length (paths o))), filledSearch o o (undetectedCounts o p) t))
 unfolding ran jobDone
 counted-as o p t left r e =
     ap (λ (a : Answer Listing). (a, left)) (forget-told r) ∙ ap forgetting e

@@ -18,11 +18,10 @@ use Rattle.order.specs.Answers.{orderIn}
 use Rattle.order.specs.Model.Accepted.{AcceptedAs}
 use Rattle.order.specs.declared.questions.Takes.the-variants as T
 use Rattle.order.specs.declared.record.OrderRecord.{OrderRecord}
-use Rattle.order.proofs.FirstNo.{none-in-parts, leaves-refused, leaves-answered}
+use Rattle.order.proofs.FirstNo.{none-in-parts, leaves-refused, leaves-answered, refused-not-accepted, refused-not-with}
 use Rattle.order.proofs.Asked.{numbered-order, accepted-order}
 use Rattle.events.specs.Events.{events}
 use Rattle.paths.specs.Paths.{paths, pathRoom}
-use Rattle.listing.specs.Calls.{unlessTooMany}
 use Rattle.listing.proofs.Answers.{too-many-events, too-many-paths, all-fit}
 use Rattle.undetected.specs.Undetected.{CountsUndetected}
 use Rattle.undetected.proofs.Undetected.{undetected-means-divided}
@@ -31,7 +30,7 @@ use Rattle.choice.specs.Best.{SharedBest, OnlyBest}
 use Rattle.choice.proofs.Best.{undetected-count-at}
 use Rattle.choice.proofs.Chosen.{choice-one, choice-tie⇔shared-best}
 use Rattle.search.specs.declared.Searched.{Searched}
-use Rattle.search.specs.Calls.{Found, found, searchedAs, SearchTables, clearedSearch, filledSearch, searchQuestions, chosen, searchCall}
+use Rattle.search.specs.Calls.{Found, found, searchedAs, SearchTables, clearedSearch, filledSearch, searchQuestions, chosen, searched, searchCall}
 use Rattle.search.specs.Promise.{NoneRefuses, NamesBest, LeavesShared, Promise}
 
 module _ (o : Order) (t : SearchTables) where
@@ -43,18 +42,18 @@ module _ (o : Order) (t : SearchTables) where
   why = firstNo (searchQuestions o (length (t .plain)) (length (t .undetected)) (length (t .work)))
 
   abbrev all : Outcome
-  all = chosen o t (choice o)
+  all = chosen o o t (choice o)
 
   abbrev fitting : Outcome
-  fitting = unlessTooMany o (length (t .events)) (length (t .paths)) (clearedSearch t) all
+  fitting = searched o o t
 
   -- ---- refused, or chosen
 
   accepts : NoneRefuses o t → searchCall o t ≡ all
-  unfolding searchCall
+  unfolding searchCall searched
   accepts n =
       sym (leaves-answered t fitting why (sym (n .questions)))
-      ∙ sym (all-fit o (length (t .events)) (length (t .paths)) (clearedSearch t) all (n .events-fit) (n .paths-fit))
+      ∙ sym (all-fit o o (length (t .events)) (length (t .paths)) (clearedSearch t) all (n .events-fit) (n .paths-fit))
 
   -- a refusal before question 15
   abbrev Refuses : Type 0
@@ -69,13 +68,14 @@ module _ (o : Order) (t : SearchTables) where
   refuses-late e r h = (r, ap (λ (x : Outcome). x .0) (sym (leaves-answered t fitting why (sym e)) ∙ sym h))
 
   either : NoneRefuses o t ⊎ Refuses
+  unfolding searched
   either = by why refl
     where
       then-fits : why ≡ 0 → NoneRefuses o t ⊎ Refuses
       then-fits e = elim (lt-or-ge (length (t .events)) (length (events o))) [
-        | inl more ↦ inr (refuses-late e 13 (too-many-events o (length (t .events)) (length (t .paths)) (clearedSearch t) all more))
+        | inl more ↦ inr (refuses-late e 13 (too-many-events o o (length (t .events)) (length (t .paths)) (clearedSearch t) all more))
         | inr fits ↦ elim (lt-or-ge (pathRoom (length (t .paths))) (length (paths o))) [
-          | inl more ↦ inr (refuses-late e 14 (too-many-paths o (length (t .events)) (length (t .paths)) (clearedSearch t) all fits more))
+          | inl more ↦ inr (refuses-late e 14 (too-many-paths o o (length (t .events)) (length (t .paths)) (clearedSearch t) all fits more))
           | inr room ↦ inl (record { questions = e; events-fit = fits; paths-fit = room })
         ]
       ]
@@ -90,32 +90,26 @@ module _ (o : Order) (t : SearchTables) where
   unfolding searchQuestions AcceptedAs
   positive n = accepted-order T.Everything o (none-in-parts _ _ (numbered-order T.Everything o) (n .questions) .0) .degree .some-degree
 
-  chosen-found : (c : Choice) (f : Found) → chosen o t c .0 ≡ accepted f → (counts : List ℕ) × (c ≡ one (f .polynomial) counts)
+  chosen-found : (c : Choice) (f : Found) → chosen o o t c .0 ≡ accepted f → (counts : List ℕ) × (c ≡ one (f .polynomial) counts)
   unfolding chosen
   chosen-found (one q counts) f same =
       let is : _≡_ {A = Found} (found (length (events o)) (length (paths o)) q) f = cc in
       (counts, ap (λ (x : Found). one (x .polynomial) counts) is)
   chosen-found (tie left counts) f same = absurd (let z : _≡_ {A = ℕ} 0 1 = cc in omega arith)
 
-  chosen-tied : (c : Choice) (left : ℕ) → chosen o t c .0 ≡ refusedWith 15 left → (counts : List ℕ) × (c ≡ tie left counts)
+  chosen-tied : (c : Choice) (left : ℕ) → chosen o o t c .0 ≡ refusedWith 15 left → (counts : List ℕ) × (c ≡ tie left counts)
   unfolding chosen
   chosen-tied (one q counts) left same = absurd (let z : _≡_ {A = ℕ} 0 1 = cc in omega arith)
   chosen-tied (tie left′ counts) left same = (counts, cc)
 
-  not-found : (r : ℕ) (f : Found) → refused r ≡ accepted f → ⊥
-  not-found r f same = let z : _≡_ {A = ℕ} 0 1 = cc in omega arith
-
-  not-tied : (r left : ℕ) → _≡_ {A = Answer Found} (refused r) (refusedWith 15 left) → ⊥
-  not-tied r left same = let z : _≡_ {A = ℕ} 0 1 = cc in omega arith
-
   is-named : (f : Found) → searchCall o t .0 ≡ accepted f → NoneRefuses o t ⊎ Refuses → NamesBest o t (searchCall o t .1) (f .polynomial)
   unfolding chosen filledSearch
-  is-named f same (inr r) = absurd (not-found (r .0) f (sym (r .1) ∙ same))
+  is-named f same (inr r) = absurd (refused-not-accepted (r .0) f (sym (r .1) ∙ same))
   is-named f same (inl n) =
       let p : ℕ = f .polynomial in
       let c = chosen-found (choice o) f (ap (λ (x : Outcome). x .0) (sym (accepts n)) ∙ same) in
       let best : OnlyBest o p (c .0) = choice-one o (positive n) p (c .0) (c .1) in
-      let left : searchCall o t .1 ≡ filledSearch o (c .0) t = ap (λ (x : Outcome). x .1) (accepts n) ∙ ap (λ (x : Choice). chosen o t x .1) (c .1) in
+      let left : searchCall o t .1 ≡ filledSearch o o (c .0) t = ap (λ (x : Outcome). x .1) (accepts n) ∙ ap (λ (x : Choice). chosen o o t x .1) (c .1) in
       record {
         candidate = best .candidate;
         undetected = ap (λ (x : SearchTables). x .undetected) left ∙ ap (padded (length (t .undetected)) 0) (best .counted);
@@ -125,15 +119,15 @@ module _ (o : Order) (t : SearchTables) where
 
   is-tied : (left : ℕ) → searchCall o t .0 ≡ refusedWith 15 left → NoneRefuses o t ⊎ Refuses → NoneRefuses o t × LeavesShared o t (searchCall o t .1) left
   unfolding chosen
-  is-tied left same (inr r) = absurd (not-tied (r .0) left (sym (r .1) ∙ same))
+  is-tied left same (inr r) = absurd (refused-not-with (r .0) 15 left (sym (r .1) ∙ same))
   is-tied left same (inl n) =
       let c = chosen-tied (choice o) left (ap (λ (x : Outcome). x .0) (sym (accepts n)) ∙ same) in
-      (n, record { counts = c .0; shared = choice-tie⇔shared-best o (positive n) left (c .0) .0 (c .1); tables = ap (λ (x : Outcome). x .1) (accepts n) ∙ ap (λ (x : Choice). chosen o t x .1) (c .1) })
+      (n, record { counts = c .0; shared = choice-tie⇔shared-best o (positive n) left (c .0) .0 (c .1); tables = ap (λ (x : Outcome). x .1) (accepts n) ∙ ap (λ (x : Choice). chosen o o t x .1) (c .1) })
 
   tied-where-shared : (left : ℕ) → NoneRefuses o t → (counts : List ℕ) × SharedBest o left counts → searchCall o t .0 ≡ refusedWith 15 left
   unfolding chosen
   tied-where-shared left n s =
-      ap (λ (x : Outcome). x .0) (accepts n) ∙ ap (λ (x : Choice). chosen o t x .0) (choice-tie⇔shared-best o (positive n) left (s .0) .1 (s .1))
+      ap (λ (x : Outcome). x .0) (accepts n) ∙ ap (λ (x : Choice). chosen o o t x .0) (choice-tie⇔shared-best o (positive n) left (s .0) .1 (s .1))
 
 pub demand-3 : (o : Order) (lent : SearchTables) → Promise o lent (searchCall o lent .0) (searchCall o lent .1)
 demand-3 o t = record {

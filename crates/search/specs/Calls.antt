@@ -57,24 +57,27 @@ countQuestions o p plain undetected size = searchQuestions o plain undetected si
 unfoldable pub clearedSearch : SearchTables → SearchTables
 clearedSearch t = searchTables (cleared noEvent (t .events)) (cleared 0 (t .paths)) (cleared 0 (t .plain)) (cleared 0 (t .undetected)) (cleared 0 (t .work))
 
--- an accepted call, and refusal 15: the lists with zeros after them, and the work area zero
-unfoldable pub filledSearch : Order → List ℕ → SearchTables → SearchTables
-filledSearch o undetected t =
-    searchTables (eventTable (length (t .events)) o) (pathTable (length (t .paths)) o) (padded (length (t .plain)) 0 (plainCounts o))
+-- an accepted call, and refusal 15: the lists with zeros after them, and the work area zero. The events may be those of a longer order than the one that
+-- the row is for (`unlessTooMany`).
+unfoldable pub filledSearch : (longer o : Order) → List ℕ → SearchTables → SearchTables
+filledSearch longer o undetected t =
+    searchTables (eventTable (length (t .events)) longer) (pathTable (length (t .paths)) o) (padded (length (t .plain)) 0 (plainCounts o))
     (padded (length (t .undetected)) 0 undetected) (cleared 0 (t .work))
 
 -- question 15
-unfoldable pub chosen : Order → SearchTables → Choice → Answer Found × SearchTables
-chosen o t (one p undetected) = (accepted (found (length (events o)) (length (paths o)) p), filledSearch o undetected t)
-chosen o t (tie left undetected) = (refusedWith 15 left, filledSearch o undetected t)
+unfoldable pub chosen : (longer o : Order) → SearchTables → Choice → Answer Found × SearchTables
+chosen longer o t (one p undetected) = (accepted (found (length (events o)) (length (paths o)) p), filledSearch longer o undetected t)
+chosen longer o t (tie left undetected) = (refusedWith 15 left, filledSearch longer o undetected t)
+
+-- the row of an accepted order, its events collected for the longer one
+unfoldable pub searched : (longer o : Order) → SearchTables → Answer Found × SearchTables
+searched longer o t = unlessTooMany longer o (length (t .events)) (length (t .paths)) (clearedSearch t) (chosen longer o t (choice o))
 
 unfoldable pub searchCall : Order → SearchTables → Answer Found × SearchTables
-searchCall o t =
-    unlessRefused (firstNo (searchQuestions o (length (t .plain)) (length (t .undetected)) (length (t .work)))) t
-    (unlessTooMany o (length (t .events)) (length (t .paths)) (clearedSearch t) (chosen o t (choice o)))
+searchCall o t = unlessRefused (firstNo (searchQuestions o (length (t .plain)) (length (t .undetected)) (length (t .work)))) t (searched o o t)
 
 -- the counts of one polynomial; the answer is the listing's
 unfoldable pub countCall : Order → ℕ → SearchTables → Answer Listing × SearchTables
 countCall o p t =
     unlessRefused (firstNo (countQuestions o p (length (t .plain)) (length (t .undetected)) (length (t .work)))) t
-    (unlessTooMany o (length (t .events)) (length (t .paths)) (clearedSearch t) (accepted (listing (length (events o)) (length (paths o))), filledSearch o (undetectedCounts o p) t))
+    (unlessTooMany o o (length (t .events)) (length (t .paths)) (clearedSearch t) (accepted (listing (length (events o)) (length (paths o))), filledSearch o o (undetectedCounts o p) t))

@@ -34,7 +34,7 @@ pub record NamesBest (o : Order) (lent left : SearchTables) (p : ℕ) : Type 0 w
 pub record LeavesShared (o : Order) (lent left : SearchTables) (how-many : ℕ) : Type 0 where
   pub counts : List ℕ
   pub shared : SharedBest o how-many counts
-  pub tables : left ≡ filledSearch o counts lent
+  pub tables : left ≡ filledSearch o o counts lent
 
 pub record Promise (o : Order) (lent : SearchTables) (answer : Answer Found) (left : SearchTables) : Type 0 where
   pub names-best : (f : Found) → answer ≡ accepted f → NamesBest o lent left (f .polynomial)

@@ -104,7 +104,7 @@ module _ (o : Order) where
       let xs : List ℕ = flatMap (wordsOfWeight o) (upFrom 0 w) in
       let zs : List ℕ = flatMap (wordsOfWeight o) (upFrom (suc w) (o .d - suc w)) in
       ap (λ (l : List ℕ). map (λ k. getD l k 0) (upFrom (length xs) (length (wordsOfWeight o w)))) (paths-parts w h)
-      ∙ block-at xs (wordsOfWeight o w) zs
+      ∙ block-at 0 xs (wordsOfWeight o w) zs
 
   -- ---- what p divides
 

@@ -90,6 +90,27 @@ const _: () = assert!(std::mem::size_of::<Listing>() == 24);
 const _: () = assert!(std::mem::size_of::<Row>() == 40);
 const _: () = assert!(std::mem::size_of::<Part>() == 24);
 
+/// A call that takes all five tables, after what else it takes.
+macro_rules! in_tables {
+    ($lent:ident, $call:ident, $($argument:expr),+) => {
+        unsafe {
+            $call(
+                $($argument,)+
+                $lent.events.as_mut_ptr(),
+                $lent.events.len(),
+                $lent.paths.as_mut_ptr(),
+                $lent.paths.len(),
+                $lent.plain.as_mut_ptr(),
+                $lent.plain.len(),
+                $lent.undetected.as_mut_ptr(),
+                $lent.undetected.len(),
+                $lent.work.as_mut_ptr(),
+                $lent.work.len(),
+            )
+        }
+    };
+}
+
 pub fn append(bits: u64, m: u64, polynomial: u64, message: u128) -> Answer {
     let (low, high) = halves(message);
     unsafe { dohvrin_append(bits, m, polynomial, low, high) }
@@ -155,40 +176,15 @@ pub fn part(paths: &[u64], counts: &[u64], weight: u64) -> Part {
 }
 
 pub fn search(order: AnyOrder, lent: Lent) -> Row {
-    unsafe {
-        dohvrin_search(
-            order,
-            lent.events.as_mut_ptr(),
-            lent.events.len(),
-            lent.paths.as_mut_ptr(),
-            lent.paths.len(),
-            lent.plain.as_mut_ptr(),
-            lent.plain.len(),
-            lent.undetected.as_mut_ptr(),
-            lent.undetected.len(),
-            lent.work.as_mut_ptr(),
-            lent.work.len(),
-        )
-    }
+    in_tables!(lent, dohvrin_search, order)
+}
+
+pub fn quote(order: AnyOrder, bits: u64, lent: Lent) -> Row {
+    in_tables!(lent, dohvrin_quote, order, bits)
 }
 
 pub fn count(order: AnyOrder, polynomial: u64, lent: Lent) -> Listing {
-    unsafe {
-        dohvrin_count(
-            order,
-            polynomial,
-            lent.events.as_mut_ptr(),
-            lent.events.len(),
-            lent.paths.as_mut_ptr(),
-            lent.paths.len(),
-            lent.plain.as_mut_ptr(),
-            lent.plain.len(),
-            lent.undetected.as_mut_ptr(),
-            lent.undetected.len(),
-            lent.work.as_mut_ptr(),
-            lent.work.len(),
-        )
-    }
+    in_tables!(lent, dohvrin_count, order, polynomial)
 }
 
 pub fn row_text(
@@ -255,6 +251,20 @@ extern "C" {
     ) -> Part;
     fn dohvrin_search(
         order: AnyOrder,
+        events: *mut Event,
+        event_entries: usize,
+        paths: *mut u64,
+        path_numbers: usize,
+        plain: *mut u64,
+        plain_entries: usize,
+        undetected: *mut u64,
+        undetected_entries: usize,
+        work: *mut u64,
+        work_numbers: usize,
+    ) -> Row;
+    fn dohvrin_quote(
+        order: AnyOrder,
+        bits: u64,
         events: *mut Event,
         event_entries: usize,
         paths: *mut u64,

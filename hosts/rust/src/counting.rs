@@ -12,8 +12,7 @@ pub fn count(order: &Order) -> Entries {
     let (mut events, mut words) = (0u64, 0u64);
     for state in trellis.homes() {
         let by_length = trellis.events(state);
-        let all = by_length.iter().map(Enumerator::total);
-        events = all.fold(events, u64::saturating_add);
+        events = events.saturating_add(total(&by_length));
         words = words.saturating_add(trellis.words(&by_length));
     }
     Entries {
@@ -21,6 +20,19 @@ pub fn count(order: &Order) -> Entries {
         // The word zero is no path; a number that is too large stays so.
         paths: words.saturating_sub(u64::from(words < u64::MAX)) as usize,
     }
+}
+
+/// Counts the events alone.
+pub fn events(order: &Order) -> usize {
+    let trellis = Trellis::of(order);
+    let of_states = trellis.homes().map(|state| total(&trellis.events(state)));
+    of_states.fold(0, u64::saturating_add) as usize
+}
+
+/// How many there are of all lengths.
+fn total(by_length: &[Enumerator]) -> u64 {
+    let all = by_length.iter().map(Enumerator::total);
+    all.fold(0, u64::saturating_add)
 }
 
 /// The steps of a code, and the bounds of what is counted.

@@ -1,6 +1,6 @@
 //! The sizes of event and path table.
 
-use crate::{counting, Event, Order, Refusal};
+use crate::{counting, Event, Order, Quote, Refusal};
 use std::error::Error;
 use std::fmt;
 use std::mem::size_of;
@@ -31,6 +31,15 @@ impl Entries {
     /// ```
     pub fn needed(order: &Order) -> Entries {
         counting::count(order)
+    }
+
+    /// How many a quote needs: the events of the order, and the paths of the
+    /// shorter length.
+    pub fn needed_to(quote: &Quote) -> Entries {
+        Entries {
+            events: counting::events(quote.long()),
+            paths: counting::count(quote.short()).paths,
+        }
     }
 
     /// The bytes of both tables.
@@ -120,7 +129,7 @@ impl Error for NoRoom {}
 #[cfg(test)]
 mod tests {
     use super::{Entries, NoRoom};
-    use crate::{AnyOrder, Link, Order, Refusal};
+    use crate::{AnyOrder, Link, Order, Quote, Refusal};
 
     fn entries(events: usize, paths: usize) -> Entries {
         Entries { events, paths }
@@ -151,6 +160,21 @@ mod tests {
         assert_eq!(needed(&[1, 0o400], 8, 128, 5), entries(10, 8256));
         let all = needed(&[0o561, 0o753], 8, 128, 64);
         assert_eq!(all, entries(usize::MAX, usize::MAX));
+    }
+
+    #[test]
+    fn a_quote_needs_the_events_of_the_order() {
+        let needed = |generators: &[u64], v, bits, d, short| {
+            let any = AnyOrder::new(generators, v, bits, 1, d);
+            Entries::needed_to(&Quote::of(any, short).unwrap())
+        };
+        assert_eq!(needed(&[1, 3], 1, 4, 6, 3), entries(5, 7));
+        assert_eq!(needed(&[1, 3], 1, 4, 6, 4), entries(5, 13));
+        // None of 13, 17 below 14 has more than 40 steps.
+        let quoted = needed(&[0o13, 0o17], 3, 128, 14, 70);
+        assert_eq!(quoted, entries(1_134, 48_965));
+        let all = needed(&[0o561, 0o753], 8, 128, 64, 8);
+        assert_eq!(all, entries(usize::MAX, 255));
     }
 
     #[test]

@@ -13,6 +13,9 @@
 //! println!("{}", tables.search(&order).unwrap().text());
 //! ```
 //!
+//! A `Quote` is an order and a shorter length, whose row `Tables::quote` makes from
+//! the order's events.
+//!
 //! The functions below them take numbers and slices, as the calls do, and an
 //! `AnyOrder` by value, which may be wrong; a call that does not ask about m or d
 //! takes any.
@@ -93,6 +96,7 @@ mod entries;
 mod link;
 mod listing;
 mod order;
+mod quote;
 mod refusal;
 mod row;
 mod search;
@@ -104,8 +108,9 @@ pub use entries::{Entries, NoRoom};
 pub use link::Link;
 pub use listing::{collect, list, part, words, Listed, WORK};
 pub use order::Order;
+pub use quote::Quote;
 pub use refusal::Refusal;
 pub use row::Row;
-pub use search::{count, refusal_text, row_text, search, Found, Lent, Searched, TEXT};
+pub use search::{count, quote, refusal_text, row_text, search, Found, Lent, Searched, TEXT};
 pub use tables::Tables;
 pub use word::{append, encode, halves, joined, strip, test, weigh, Stripped};

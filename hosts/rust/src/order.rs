@@ -59,14 +59,7 @@ impl Order {
     /// asked: with nothing lent, the search refuses a wrong order by its
     /// question, and a right one by question 10.
     pub fn of(mut order: AnyOrder) -> Result<Order, Refusal> {
-        let nothing = Lent {
-            events: &mut [],
-            paths: &mut [],
-            plain: &mut [],
-            undetected: &mut [],
-            work: &mut [],
-        };
-        match search(order, nothing) {
+        match search(order, Lent::nothing()) {
             Err(refusal) if refusal != Refusal::Room => Err(refusal),
             _ => {
                 // As a record gives it, so that equal orders are equal.

@@ -83,13 +83,19 @@ impl Refusal {
     pub fn meaning(self) -> &'static str {
         match self {
             Refusal::RecordLength => "the record's length bytes do not count the bytes after them",
-            Refusal::Version => "the version is neither 1, tail-biting, nor 2, terminated",
+            Refusal::Version => {
+                "the version is neither 1, tail-biting, nor 2, terminated; a quote wants 1"
+            }
             Refusal::GeneratorCount => {
                 "the generators are not 2 to 4, or the record's length is not 6 + 2n"
             }
             Refusal::Memory => "the memory v is not from 1 to 8",
-            Refusal::WordLength => "the length N is not from v to 128",
-            Refusal::CheckDegree => "the check degree m is not from 1 to 12 and below N",
+            Refusal::WordLength => {
+                "the length N is not from v to 128, or that of a quote not from v to N"
+            }
+            Refusal::CheckDegree => {
+                "the check degree m is not from 1 to 12 and below N, or not below that of a quote"
+            }
             Refusal::Threshold => "the threshold d is not from 1 to 64",
             Refusal::Generator => "a generator is zero, or not below 2^(v+1)",
             Refusal::GeneratorEnds => "no generator has bit v, or none has bit 0",

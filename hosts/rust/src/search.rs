@@ -1,4 +1,5 @@
-//! The search for the best polynomial, the counts of one, and their texts.
+//! The search for the best polynomial, of an order or of a shorter length, the
+//! counts of one, and their texts.
 
 use crate::listing::listed;
 use crate::refusal::accepted;
@@ -7,7 +8,7 @@ use crate::{calls, AnyOrder, Event, Listed, Refusal};
 /// The least bytes of a text buffer; no text has more.
 pub const TEXT: usize = 4096;
 
-/// What is lent to a search or a count.
+/// What is lent to a search, a quote or a count.
 #[derive(Debug)]
 pub struct Lent<'a> {
     pub events: &'a mut [Event],
@@ -21,10 +22,24 @@ pub struct Lent<'a> {
     pub work: &'a mut [u64],
 }
 
+impl Lent<'_> {
+    /// Tables of no entries: question 10 refuses them, after all that is asked
+    /// about an order.
+    pub(crate) fn nothing() -> Self {
+        Lent {
+            events: &mut [],
+            paths: &mut [],
+            plain: &mut [],
+            undetected: &mut [],
+            work: &mut [],
+        }
+    }
+}
+
 /// What a row says beside its order and the counts.
 #[derive(Clone, Copy, Debug, PartialEq, Eq)]
 pub struct Found {
-    /// How many events.
+    /// How many events, for the length of the row.
     pub events: usize,
     /// How many paths.
     pub paths: usize,
@@ -46,7 +61,37 @@ pub enum Searched {
 /// or of each that shares the best counts, with zeros after them. Refusals 13
 /// and 14 leave zeros in all five; another refusal leaves all five as they were.
 pub fn search(order: AnyOrder, lent: Lent) -> Result<Searched, Refusal> {
-    let answer = calls::search(order, lent);
+    searched(calls::search(order, lent))
+}
+
+/// The same for the shorter length `bits`, from the events of a tail-biting
+/// order: those are collected for its own N and left so, and all else is told
+/// and left as `search` does for `bits`. Refusal 5: `bits` is above N, too; 13 is
+/// about N, 14 and 15 are about `bits`.
+///
+/// ```
+/// use dohvrin::{quote, AnyOrder, Event, Found, Lent, Searched, WORK};
+///
+/// let order = AnyOrder::new(&[1, 3], 1, 4, 2, 6);
+/// let (mut events, mut paths, mut work) = ([Event::default(); 5], [0; 14], vec![0; WORK]);
+/// let (mut plain, mut undetected) = ([0; 6], [0; 6]);
+/// let lent = Lent {
+///     events: &mut events,
+///     paths: &mut paths,
+///     plain: &mut plain,
+///     undetected: &mut undetected,
+///     work: &mut work,
+/// };
+/// let found = Found { events: 4, paths: 7, polynomial: 0x5 };
+/// assert_eq!(quote(order, 3, lent), Ok(Searched::Found(found)));
+/// assert_eq!(events.map(|event| event.length), [1, 2, 3, 4, 1]);
+/// assert_eq!(plain, [0, 0, 0, 4, 3, 0]);
+/// ```
+pub fn quote(order: AnyOrder, bits: u64, lent: Lent) -> Result<Searched, Refusal> {
+    searched(calls::quote(order, bits, lent))
+}
+
+fn searched(answer: calls::Row) -> Result<Searched, Refusal> {
     if answer.refusal == 15 {
         return Ok(Searched::Tied(answer.left));
     }

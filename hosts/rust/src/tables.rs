@@ -1,7 +1,7 @@
 //! The tables that a search needs, owned.
 
-use crate::{count, part, search, words};
-use crate::{Entries, Event, Found, Lent, NoRoom, Order, Refusal, Row, Searched, WORK};
+use crate::{count, part, quote, search, words};
+use crate::{Entries, Event, Found, Lent, NoRoom, Order, Quote, Refusal, Row, Searched, WORK};
 
 /// Weights below the greatest threshold.
 const WEIGHTS: usize = 64;
@@ -52,8 +52,16 @@ impl Tables {
     /// Tables of the sizes that an order needs, by a count, where events and
     /// paths have no more bytes than the limit and there is memory for them.
     pub fn for_order(order: &Order, limit: usize) -> Result<Tables, NoRoom> {
-        let needed = Entries::needed(order).within(limit)?;
-        Tables::of(needed).ok_or(NoRoom { needed, limit })
+        Tables::within(Entries::needed(order), limit)
+    }
+
+    /// The same for a quote.
+    pub fn for_quote(quote: &Quote, limit: usize) -> Result<Tables, NoRoom> {
+        Tables::within(Entries::needed_to(quote), limit)
+    }
+
+    fn within(needed: Entries, limit: usize) -> Result<Tables, NoRoom> {
+        Tables::of(needed.within(limit)?).ok_or(NoRoom { needed, limit })
     }
 
     /// The entries of event and path table.
@@ -68,6 +76,23 @@ impl Tables {
     /// has the shared counts.
     pub fn search(&mut self, order: &Order) -> Result<Row, Refusal> {
         let answer = search(order.any(), self.lent());
+        self.searched(order, answer)
+    }
+
+    /// The row of the best polynomial for the shorter length of a quote. The event
+    /// table keeps the events for the order's own length.
+    pub fn quote(&mut self, quoted: &Quote) -> Result<Row, Refusal> {
+        let (long, short) = (quoted.long(), quoted.short());
+        let answer = quote(long.any(), short.bits(), self.lent());
+        self.searched(short, answer)
+    }
+
+    /// The row for this order of what was found.
+    fn searched(
+        &mut self,
+        order: &Order,
+        answer: Result<Searched, Refusal>,
+    ) -> Result<Row, Refusal> {
         self.listed = answer.map_or(0, |_| order.d() as usize);
         match answer? {
             Searched::Found(found) => Ok(self.row(order, found)),
@@ -150,7 +175,7 @@ fn zeros<T: Clone + Default>(entries: usize) -> Option<Vec<T>> {
 #[cfg(test)]
 mod tests {
     use super::Tables;
-    use crate::{Entries, NoRoom, Order, Refusal};
+    use crate::{Entries, NoRoom, Order, Quote, Refusal};
 
     fn code_s(bits: u64, d: u64) -> Order {
         Order::new(&[1, 3], 1, bits, 2, d).unwrap()
@@ -191,6 +216,55 @@ mod tests {
         assert_eq!(tables.plain(), [0, 0, 0, 4, 5]);
         assert_eq!(tables.paths_of(3).count(), 4);
         assert_eq!(tables.paths_of(5).count(), 0);
+    }
+
+    fn quoted(bits: u64, d: u64, short: u64) -> Quote {
+        Quote::of(code_s(bits, d).any(), short).unwrap()
+    }
+
+    #[test]
+    fn a_quote_is_the_row_of_the_shorter_order() {
+        for short in 3..=8 {
+            let quote = quoted(8, 7, short);
+            let mut tables = Tables::for_quote(&quote, 1 << 20).unwrap();
+            let order = code_s(short, 7);
+            let fresh = Tables::with_entries(100, 300).search(&order);
+            assert_eq!(tables.quote(&quote), fresh, "{short}");
+            assert_eq!(tables.events, {
+                let mut long = Tables::with_entries(tables.events.len(), 300);
+                long.search(&code_s(8, 7)).unwrap();
+                long.events
+            });
+        }
+    }
+
+    #[test]
+    fn a_quote_needs_the_events_of_the_order_and_the_paths_of_its_length() {
+        let quote = quoted(4, 6, 3);
+        let refused = |events, paths| Tables::with_entries(events, paths).quote(&quote).err();
+        assert_eq!(refused(5, 7), None);
+        assert_eq!(refused(5, 6), Some(Refusal::Paths));
+        assert_eq!(refused(4, 7), Some(Refusal::Events));
+        assert_eq!(refused(0, 0), Some(Refusal::Events));
+        let limit = 5 * 40 + 7 * 16;
+        assert!(Tables::for_quote(&quote, limit).is_ok());
+        let no_room = Tables::for_quote(&quote, limit - 1).err().unwrap();
+        assert_eq!(no_room.refusal(), Refusal::Paths);
+    }
+
+    #[test]
+    fn a_tie_of_a_quote_leaves_the_lists_of_its_length() {
+        let mut tables = Tables::with_entries(5, 13);
+        let quote = quoted(4, 3, 3);
+        assert_eq!(tables.quote(&quote), Err(Refusal::Tie { left: 2 }));
+        assert_eq!(
+            (tables.plain(), tables.undetected()),
+            (&[0; 3][..], &[0; 3][..])
+        );
+        let quote = quoted(5, 5, 4);
+        assert_eq!(tables.quote(&quote), Err(Refusal::Tie { left: 2 }));
+        assert_eq!(tables.undetected(), [0, 0, 0, 0, 1]);
+        assert_eq!(tables.paths_of(4).count(), 5);
     }
 
     #[test]

@@ -3,7 +3,7 @@
 
 mod lent;
 
-use dohvrin::{collect, count, encode, list, search, weigh};
+use dohvrin::{collect, count, encode, list, quote, search, weigh};
 use dohvrin::{AnyOrder, Lent, Order, Refusal, WORK};
 use lent::lent;
 
@@ -34,6 +34,7 @@ fn before_the_tables_and_the_polynomial() {
         let listed = |l: Lent| list(order(), l.events, l.paths, l.plain, l.work);
         assert_eq!(lent(entries, work, listed), Err(NO));
         assert_eq!(lent(entries, work, |l| search(order(), l)), Err(NO));
+        assert_eq!(lent(entries, work, |l| quote(order(), 3, l)), Err(NO));
         for polynomial in [0x5, 0x4] {
             let counted = |l: Lent| count(order(), polynomial, l);
             assert_eq!(lent(entries, work, counted), Err(NO));

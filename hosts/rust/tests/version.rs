@@ -3,7 +3,7 @@
 
 mod lent;
 
-use dohvrin::{collect, count, encode, list, row_text, search, weigh};
+use dohvrin::{collect, count, encode, list, quote, row_text, search, weigh};
 use dohvrin::{AnyOrder, Found, Lent, Link, Refusal, TEXT, WORK};
 use lent::lent;
 
@@ -35,6 +35,19 @@ fn before_all_other_questions() {
             assert_eq!(lent(entries, work, listed), Err(NO));
             assert_eq!(lent(entries, work, |l| search(order, l)), Err(NO));
             assert_eq!(lent(entries, work, |l| count(order, 0x4, l)), Err(NO));
+            assert_eq!(lent(entries, work, |l| quote(order, 3, l)), Err(NO));
+        }
+    }
+}
+
+#[test]
+fn a_terminated_link_has_no_quotes() {
+    for order in orders(Link::Terminated.version()) {
+        for bits in [0, 2, 3, 4, u64::MAX] {
+            for (entries, work) in [(0, 0), (100, WORK)] {
+                let quoted = |l: Lent| quote(order, bits, l);
+                assert_eq!(lent(entries, work, quoted), Err(NO));
+            }
         }
     }
 }

@@ -17,6 +17,8 @@ standard input.
   --events E       entries of the event table (512)
   --paths P        entries of the path table (2048)
   --of 0x61        undetected counts of this polynomial, without a search
+  --quote N'       the row of the length N' instead, question 13 being about N;
+                   several lengths as 70,64, or one after each --quote
   --list events    the events instead of the row: state length weight input
   --list paths     the paths instead of the row: weight number
   --method M       words (N up to 20), table, or both, compared (both)
@@ -48,6 +50,8 @@ pub struct Args {
     pub wanted: Wanted,
     pub lent: Lent,
     pub of: Option<u64>,
+    /// The lengths whose rows are wanted; none for the order's own.
+    pub quote: Vec<usize>,
     pub method: Method,
 }
 
@@ -55,6 +59,7 @@ pub struct Args {
 struct Options {
     lent: Lent,
     of: Option<u64>,
+    quote: Vec<usize>,
     method: Option<Method>,
     list: Option<Wanted>,
     terminated: bool,
@@ -91,6 +96,7 @@ impl Options {
             "--events" => self.lent.events = capacity(option, &value()?)?,
             "--paths" => self.lent.paths = capacity(option, &value()?)?,
             "--of" => self.of = Some(polynomial(&value()?)?),
+            "--quote" => self.quote.extend(lengths(&value()?)?),
             "--method" => self.method = Some(method(&value()?)?),
             "--list" => self.list = Some(listed(&value()?)?),
             "--terminated" => self.terminated = true,
@@ -108,10 +114,15 @@ impl Options {
             wanted,
             lent: self.lent,
             of: self.of,
+            quote: self.quote.clone(),
             method,
         };
         if self.help {
             return Ok(args(Source::Input, Wanted::Help));
+        }
+        let other = self.record || self.list.is_some() || self.of.is_some();
+        if other && !self.quote.is_empty() {
+            return Err("--quote: not together with --record, --list or --of".to_string());
         }
         if self.record && (self.list.is_some() || self.of.is_some()) {
             return Err("--record: not together with --list or --of".to_string());
@@ -155,6 +166,13 @@ fn polynomial(value: &str) -> Result<u64, String> {
         .filter(|digits| !digits.starts_with('+'))
         .and_then(|digits| u64::from_str_radix(digits, 16).ok())
         .ok_or_else(|| format!("--of {value}: not a polynomial in hexadecimal such as 0x61"))
+}
+
+/// One length, or several between commas.
+fn lengths(value: &str) -> Result<Vec<usize>, String> {
+    let length = |word| digits(word, 10).and_then(|number| usize::try_from(number).ok());
+    let all = value.split(',').map(length).collect::<Option<_>>();
+    all.ok_or_else(|| format!("--quote {value}: not lengths such as 70 or 70,64"))
 }
 
 fn method(value: &str) -> Result<Method, String> {

@@ -20,6 +20,7 @@ pub mod paths;
 pub mod poly;
 pub mod print;
 pub mod questions;
+pub mod quote;
 pub mod row;
 pub mod search;
 pub mod table;

@@ -3,7 +3,7 @@
 mod args;
 
 use args::{Args, Source, Wanted};
-use dso_ref::{events, row, words, Failure, Order, Refusal};
+use dso_ref::{events, quote, row, words, Failure, Order, Refusal};
 use std::fmt::Display;
 use std::io::{self, BufWriter, ErrorKind, Read, Write};
 use std::process::ExitCode;
@@ -91,7 +91,22 @@ fn answer(args: &Args) -> Result<(), Stop> {
                     .map(|(weight, number)| format!("{weight} {number}")),
             )?;
         }
-        _ => lines([row::row(&order, args.lent, args.of, args.method)?])?,
+        _ if args.quote.is_empty() => {
+            lines([row::row(&order, args.lent, args.of, args.method)?])?;
+        }
+        _ => quotes(&order, args)?,
+    }
+    Ok(())
+}
+
+/// The rows of all lengths; where one is refused, the others are still answered.
+fn quotes(order: &Order, args: &Args) -> Result<(), Stop> {
+    for &length in &args.quote {
+        match quote::row(order, length, args.lent, args.method) {
+            Ok(row) => lines([row])?,
+            Err(Failure::Refused(refusal)) => lines([refusal])?,
+            Err(failure) => return Err(failure.into()),
+        }
     }
     Ok(())
 }

@@ -31,6 +31,11 @@ pub fn kind(version: u64) -> Result<Kind, Refusal> {
     Kind::ALL.into_iter().find(named).ok_or(Refusal::No(2))
 }
 
+/// Question 2 for a quote: is the version that of a tail-biting link?
+pub fn tail_biting(version: u64) -> Asked {
+    ask(2, version == Kind::TailBiting.version())
+}
+
 /// Question 3 outside a record: are there 2 to 4 generators?
 pub fn generator_count(n: usize) -> Asked {
     ask(3, (2..=4).contains(&n))
@@ -45,6 +50,12 @@ pub fn memory(v: usize) -> Asked {
 /// where a call takes no memory.
 pub fn length(least: usize, n: usize) -> Asked {
     ask(5, least <= n && n <= 128)
+}
+
+/// Question 5 for a quote from the events for N: is its length from the memory
+/// to N?
+pub fn quoted_length(v: usize, quoted: usize, n: usize) -> Asked {
+    ask(5, v <= quoted && quoted <= n)
 }
 
 /// Question 6: is the check degree from 1 to 12 and below the length?

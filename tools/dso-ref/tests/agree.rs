@@ -4,7 +4,7 @@ mod common;
 
 use common::Random;
 use dso_ref::events::{self, Event};
-use dso_ref::link::{self, Kind};
+use dso_ref::link::{self, Code, Kind};
 use dso_ref::poly;
 use dso_ref::row::{self, count};
 use dso_ref::search::{Best, Counter};
@@ -151,6 +151,25 @@ fn events_agree_with_their_definition() {
                 "{order}"
             );
             assert_eq!(events::list(&order, short), Err(Refusal::No(13)), "{order}");
+        }
+    }
+}
+
+#[test]
+fn events_for_a_shorter_length_are_the_shorter_ones() {
+    let mut random = Random(8);
+    for _ in 0..1000 {
+        let order = random.order(4, 14, 4, 14);
+        let all = events::list(&order, ALL).unwrap();
+        for length in order.memory().max(order.degree() + 1)..=order.length() {
+            let code = Code {
+                length,
+                ..order.code()
+            };
+            let short = Order::new(code, order.degree(), order.threshold()).unwrap();
+            let fitting = all.iter().filter(|event| event.length <= code.steps());
+            let expected: Vec<Event> = fitting.copied().collect();
+            assert_eq!(events::list(&short, ALL), Ok(expected), "{order}, {length}");
         }
     }
 }

@@ -11,8 +11,9 @@
 //! ORDER 2 1 4 2 6 1 3
 //! ```
 //!
-//! `tables` and `of` may be left out. A byte may be repeated: `00*65536`. More
-//! lines with # may follow the first; a block of them alone is a remark.
+//! `tables` and `of` may be left out; in place of `of` there may be `quote 3`. A
+//! byte may be repeated: `00*65536`. More lines with # may follow the first; a
+//! block of them alone is a remark.
 
 /// A record and what a program is to print for it.
 #[derive(Debug, Default, PartialEq, Eq)]
@@ -25,13 +26,15 @@ pub struct Case {
     pub tables: Option<(String, String)>,
     /// The polynomial whose undetected counts are wanted, where given.
     pub of: Option<String>,
+    /// The length that is to be quoted, where given.
+    pub quote: Option<String>,
     pub expected: String,
 }
 
 impl Case {
     /// Whether a program that takes no options can be run on the case.
     pub fn plain(&self) -> bool {
-        self.tables.is_none() && self.of.is_none()
+        self.tables.is_none() && self.of.is_none() && self.quote.is_none()
     }
 }
 
@@ -90,7 +93,12 @@ fn take_line(case: &mut Case, line: &str) -> Result<(), String> {
         ["tables", events, paths] if case.tables.is_none() => {
             case.tables = Some((number_of(events)?, number_of(paths)?));
         }
-        ["of", polynomial] if case.of.is_none() => case.of = Some(polynomial.to_string()),
+        ["of", polynomial] if case.of.is_none() && case.quote.is_none() => {
+            case.of = Some(polynomial.to_string());
+        }
+        ["quote", length] if case.of.is_none() && case.quote.is_none() => {
+            case.quote = Some(number_of(length)?);
+        }
         _ => return Err(format!("not understood: {line}")),
     }
     Ok(())
@@ -141,6 +149,13 @@ mod tests {
     }
 
     #[test]
+    fn a_length_to_quote() {
+        let text = "# shorter\nrecord 00\nquote 070\nexpect\nNO 1\n";
+        let case = &read(text).unwrap()[0];
+        assert_eq!((case.quote.as_deref(), case.plain()), (Some("70"), false));
+    }
+
+    #[test]
     fn what_is_not_understood_is_an_error() {
         for text in [
             "",
@@ -156,6 +171,12 @@ mod tests {
             "# no number\nrecord 00\ntables 1 x\nexpect\nNO 1\n",
             "# two records\nrecord 00\nrecord 00\nexpect\nNO 1\n",
             "# no such line\nrecord 00\nwith 1\nexpect\nNO 1\n",
+            "# no length\nrecord 00\nquote\nexpect\nNO 1\n",
+            "# no length\nrecord 00\nquote x\nexpect\nNO 1\n",
+            "# two lengths\nrecord 00\nquote 3 4\nexpect\nNO 1\n",
+            "# two quotes\nrecord 00\nquote 3\nquote 4\nexpect\nNO 1\n",
+            "# of and quote\nrecord 00\nof 0x5\nquote 3\nexpect\nNO 1\n",
+            "# quote and of\nrecord 00\nquote 3\nof 0x5\nexpect\nNO 1\n",
         ] {
             assert!(read(text).is_err(), "{text}");
         }

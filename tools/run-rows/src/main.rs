@@ -12,10 +12,11 @@ Runs PROGRAM on every case of the files, the record on standard input, and
 compares standard output byte for byte. A line for each failure; the last line
 is `N passed, M failed`.
 
-  ref      (the rule) PROGRAM is called as dso-ref: -, --events, --paths, --of
+  ref      (the rule) PROGRAM is called as dso-ref: -, --events, --paths, --of,
+           --quote
   sized    the same, but --events and --paths are always given
   plain    PROGRAM takes no arguments: only the cases with default tables and
-           without an `of` line are run and counted
+           without an `of` or `quote` line are run and counted
 
 Exit status: 0 all passed; 1 some failed, or none ran; 2 bad arguments, or a
 file cannot be read, has no case or is not understood.
@@ -138,6 +139,9 @@ fn command(style: Style, program: &str, case: &Case) -> Command {
         }
         if let Some(polynomial) = &case.of {
             command.args(["--of", polynomial]);
+        }
+        if let Some(length) = &case.quote {
+            command.args(["--quote", length]);
         }
     }
     command

@@ -146,9 +146,9 @@ pub record Ready (table : List Event) (work : List ℕ) (from to : ℕ) : Type 0
   pub fill-step : (k l : ℕ) → 1 ≤ l → l ≤ k → k ≤ bitsAt work → fillAt work k ≤ leastAt work l + fillAt work (k - l)
 
 -- what is asked of the events from place `from` to before place `to` of a table
-pub record Segment (table : List Event) (N from to : ℕ) : Type 0 where
+pub record Segment (table : List Event) (from to : ℕ) : Type 0 where
   pub states : (k : ℕ) → from ≤ k → k < to → getD table k noEvent .state < stateCount
-  pub lengths : (k : ℕ) → from ≤ k → k < to → (1 ≤ getD table k noEvent .length) × (getD table k noEvent .length ≤ N)
+  pub lengths : (k : ℕ) → from ≤ k → k < to → (1 ≤ getD table k noEvent .length) × (getD table k noEvent .length ≤ mostSteps)
   pub ordered : (k k′ : ℕ) → from ≤ k → k < k′ → k′ < to → getD table k noEvent .length ≤ getD table k′ noEvent .length
 
 -- ---- what is asked

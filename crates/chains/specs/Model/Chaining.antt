@@ -90,10 +90,9 @@ weightListed table first w n work s = (afterStates table n 0 work, puts (foundFr
 
 -- ---- what is asked of the tables and of a chain begun
 
--- an event that may stand in the table; joined at any place that it fits, its input stays below 2^128
+-- an event that may stand in the table, longer than N steps or not; joined at any place that it fits, its input stays below 2^128
 pub record Joinable (N : ℕ) (e : Event) : Type 0 where
   pub some-step : 1 ≤ e .length
-  pub short : e .length ≤ N
   pub light : e .weight ≤ mostWeight
   pub input-small : wordOf e < 2 ^ e .length
   pub whole : wordOf e * 2 ^ (N - e .length) < 2 ^ 128
@@ -111,14 +110,14 @@ pub record Indexed (table : List Event) (work : List ℕ) : Type 0 where
   pub fill-small : (k : ℕ) → k ≤ mostSteps → fillAt work k ≤ tooHeavy
   pub rises : (i j : ℕ) → i ≤ j → j ≤ stateCount → firstOf work i ≤ firstOf work j
   pub inside : firstOf work stateCount ≤ length table
-  pub segment : (i : ℕ) → i < stateCount → Segment table (bitsAt work) (firstOf work i) (firstOf work (i + 1))
+  pub segment : (i : ℕ) → i < stateCount → Segment table (firstOf work i) (firstOf work (i + 1))
   pub joinable : (k : ℕ) → k < firstOf work stateCount → Joinable (bitsAt work) (getD table k noEvent)
 
 -- the tables are those of the events at hand
 pub record Joins (table : List Event) (work : List ℕ) : Type 0 where
   pub ready : Ready table work (startAt work 0) (endAt work)
   pub inside : endAt work ≤ length table
-  pub segment : Segment table (bitsAt work) (startAt work 0) (endAt work)
+  pub segment : Segment table (startAt work 0) (endAt work)
   pub joinable : (k : ℕ) → startAt work 0 ≤ k → k < endAt work → Joinable (bitsAt work) (getD table k noEvent)
 
 -- a chain begun that is not whole

@@ -10,6 +10,7 @@ use Rattle.order.specs.Answers.{orderIn}
 use Rattle.order.specs.Model.Accepted.{AcceptedAs}
 use Rattle.order.specs.Order as O
 use Rattle.order.specs.declared.questions.Takes.the-variants as K
+use Rattle.order.proofs.Lengths.{no-longer-itself}
 use Rattle.order.proofs.FirstNo.{none-in-parts, leaves-refused, leaves-answered}
 use Rattle.order.proofs.Asked.{numbered-order, accepted-order, room-told}
 use Rattle.events.proofs.Plains.{Order}
@@ -33,19 +34,20 @@ ks = by-value Order ∷ lent 0 tt T.the-row ∷ lent 1 tt u64 ∷ lent 2 tt u64 
 module _ (o : O.Order) (t : PathTables) (why : ℕ) (asked : why ≡ firstNo (listQuestions o (length (t .plain)) (length (t .work)))) where
   is-refused : (r : SL.Listed) → r ≡ Refused why → (why ≡ 0 → ⊥) → _≡_ {A = Answer Listing × PathTables} (listedAs r, t) (listCall o t)
   unfolding listCall
-  is-refused r e n = ap (λ (x : SL.Listed). (listedAs x, t)) e ∙ leaves-refused t (listed o t) why _ asked n
+  is-refused r e n = ap (λ (x : SL.Listed). (listedAs x, t)) e ∙ leaves-refused t (listed o o t) why _ asked n
 
   module _ (good : why ≡ 0) where
-    may-list : ToList o (t .plain) (t .work)
+    may-list : ToList o o (t .plain) (t .work)
     unfolding listQuestions AcceptedAs
     may-list =
         let parts = none-in-parts _ _ (numbered-order K.Threshold o) (sym asked ∙ good) in
         let counts = room-told _ _ _ (parts .1) in
-        record { order = accepted-order K.Threshold o (parts .0); counts = counts .0; wide = room-told _ _ _ (counts .1) .0 }
+        let order = accepted-order K.Threshold o (parts .0) in
+        record { collected = order; order = order; no-longer = no-longer-itself o; counts = counts .0; wide = room-told _ _ _ (counts .1) .0 }
 
-    is-listed : (x : Answer Listing × PathTables) → x ≡ listed o t → x ≡ listCall o t
+    is-listed : (x : Answer Listing × PathTables) → x ≡ listed o o t → x ≡ listCall o t
     unfolding listCall
-    is-listed x e = e ∙ leaves-answered t (listed o t) _ (sym good ∙ asked)
+    is-listed x e = e ∙ leaves-answered t (listed o o t) _ (sym good ∙ asked)
 
 module _ {M : Type 1} (𝓤 : URA M) (H : Heap 𝓤) (𝓜 : Model 𝓤 H) (𝓖 : GhostRules 𝓤 H) (𝓡 : Running 𝓤 H 𝓜) where
   abbrev 𝓣 : Tables 𝓤 H
@@ -72,7 +74,8 @@ module _ {M : Type 1} (𝓤 : URA M) (H : Heap 𝓤) (𝓜 : Model 𝓤 H) (𝓖
       finish 𝓣 ! 4 (ends r is-r (events .was, (paths .was, (plain .was, (work .was, tt)))) (refl, (refl, (refl, (refl, tt)))) (is-refused o t why asked r e (eqb-differs why 0 bad))) refl refl))
       (λ good.
       relend ! 4 events refl refl $ relend ! 4 paths refl refl $ relend ! 4 plain refl refl $ relend ! 4 work refl refl $
-      calls-into 𝓣 ! 4 (0 ∷ 1 ∷ 2 ∷ 3 ∷ []) ps Listed none (λ xs. list-accepted.met 𝓤 H 𝓜 𝓖 𝓡 (bound ps xs, tt)) (asks (givenOf 𝓤 H 𝓜 𝓖) (may-list o t why asked (is-zero why good))) tt refl refl (λ r is-r (es, (ls, (ms, (us, _)))) told (ke, (kl, (km, (ku, _)))).
+      let listing : List Par = val order ∷ ps in
+      calls-into 𝓣 ! 4 (0 ∷ 1 ∷ 2 ∷ 3 ∷ []) listing Listed none (λ xs. list-accepted.met 𝓤 H 𝓜 𝓖 𝓡 (bound listing xs, tt)) (asks (givenOf 𝓤 H 𝓜 𝓖) (may-list o t why asked (is-zero why good))) tt refl refl (λ r is-r (es, (ls, (ms, (us, _)))) told (ke, (kl, (km, (ku, _)))).
       finish 𝓣 ! 4 (ends r is-r (es, (ls, (ms, (us, tt)))) (ke, (kl, (km, (ku, tt)))) (is-listed o t why asked (is-zero why good) _ told)) refl refl))))
 
 pub list-spec : {M : Type 1} → stated.statement M

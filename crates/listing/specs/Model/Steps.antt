@@ -1,22 +1,14 @@
--- What the parts of the listing compute (a model): what the collection answered, and the words of one weight sorted and counted.
+-- What the parts of the listing compute (a model): what the collection answered, and what the listing of accepted orders asks.
 -- Assumes nothing.
-use Prim.Native.Nat.{ℕ, _+_, _-_, _/_, _≤_, _<_}
-use mathlib.Core.Path.{_≡_}
-use mathlib.Core.Bool.{cond}
+use Prim.Native.Nat.{ℕ, _≤_}
 use mathlib.Core.List.{List}
-use lib.Dec.{leb}
-use lib.ListN.{length, set}
-use Rattle.lists.specs.Lists.{padded, cleared}
+use lib.ListN.{length}
 use Rattle.order.specs.Order.{Order}
 use Rattle.order.specs.Questions.{workSize}
 use Rattle.order.specs.Model.Accepted.{Accepted}
-use Rattle.events.specs.declared.Event.{Event}
-use Rattle.events.specs.Events.{events, eventTable}
-use Rattle.paths.specs.Paths.{paths, plainCounts, pathTable, pathRoom}
+use Rattle.order.specs.Model.Lengths.{NoLonger}
 use Rattle.collection.specs.declared.Collected.{Collected}
 use Rattle.collection.specs.declared.Collected.the-variants as C
-use Rattle.sort.specs.Model.Sort.{sortedPart}
-use Rattle.sort.specs.Model.Steps.{Narrow}
 
 abbrev pub refusalOf : Collected → ℕ
 refusalOf (C.Events n) = 0
@@ -26,47 +18,10 @@ abbrev pub eventsOf : Collected → ℕ
 eventsOf (C.Events n) = n
 eventsOf (C.Refused k) = 0
 
--- the words from place `at` to before place `next` in order, where the table took them all
-unfoldable pub settledPaths : List ℕ → ℕ → ℕ → List ℕ
-settledPaths paths at next = cond (leb next (length paths / 2)) (sortedPart paths at next) paths
-
--- and counted as those of weight w
-unfoldable pub settledCounts : ℕ → List ℕ → ℕ → ℕ → ℕ → List ℕ
-settledCounts size counts at next w = cond (leb next (size / 2)) (set counts w (next - at)) counts
-
--- the weight after w; none where the table is too small
-unfoldable pub laterWeight : ℕ → ℕ → ℕ → ℕ → ℕ
-laterWeight w d next room = cond (leb next room) (w + 1) d
-
--- what that asks: the words are of so many bits, and the weight has a count
-pub record Settles (paths counts : List ℕ) (at next w bits : ℕ) : Type 0 where
-  pub counted : w < length counts
-  pub narrow : next ≤ length paths / 2 → Narrow paths at next bits
-
--- ---- the path table filled from a collected event table
-
--- what is asked: the events stand in the table, and the lists are long enough
-pub record ToFill (o : Order) (table : List Event) (n : ℕ) (plain work : List ℕ) : Type 0 where
+-- what the listing asks: the events are collected for the first order, the paths are those of the second
+pub record ToList (longer o : Order) (plain work : List ℕ) : Type 0 where
+  pub collected : Accepted longer
   pub order : Accepted o
-  pub collected : table ≡ eventTable (length table) o
-  pub fits : length (events o) ≤ length table
-  pub all : n ≡ length (events o)
-  pub counts : o .d ≤ length plain
-  pub wide : workSize ≤ length work
-  pub zeros : work ≡ cleared 0 work
-
--- the paths, the plain counts and the work area, with the number of paths or one more than there is room for
-abbrev pub Filling : Type 0
-Filling = ℕ × (List ℕ × (List ℕ × List ℕ))
-
-unfoldable pub filling : Order → (table plain work : List ℕ) → Filling
-filling o table plain work =
-    cond (leb (length (paths o)) (pathRoom (length table)))
-    (length (paths o), (pathTable (length table) o, (padded (length plain) 0 (plainCounts o), cleared 0 work)))
-    (pathRoom (length table) + 1, (cleared 0 table, (cleared 0 plain, cleared 0 work)))
-
--- what the listing of an accepted order asks
-pub record ToList (o : Order) (plain work : List ℕ) : Type 0 where
-  pub order : Accepted o
+  pub no-longer : NoLonger o longer
   pub counts : o .d ≤ length plain
   pub wide : workSize ≤ length work

@@ -41,14 +41,14 @@ module _ (o : O.Order) (p : ℕ) (t : SearchTables) (why : ℕ) (asked : why ≡
   is-refused r e n = ap (λ (x : SL.Listed). (listedAs x, t)) e ∙ leaves-refused t _ why _ asked n
 
   module _ (good : why ≡ 0) (job : SJ.Job) (is : job ≡ Count p) where
-    may-run : ToRun job o (t .plain) (t .undetected) (t .work)
+    may-run : ToRun job o o (t .plain) (t .undetected) (t .work)
     may-run = rw is (may-count o t p (sym asked ∙ good))
 
-    is-counted : (r : SL.Listed) (s : SS.Searched) (left : SearchTables) → _≡_ {A = Answer Found × SearchTables} (searchedAs s, left) (ran job o t) → r ≡ listedOf s
+    is-counted : (r : SL.Listed) (s : SS.Searched) (left : SearchTables) → _≡_ {A = Answer Found × SearchTables} (searchedAs s, left) (ran job o o t) → r ≡ listedOf s
         → _≡_ {A = Answer Listing × SearchTables} (listedAs r, left) (countCall o p t)
     unfolding countCall
     is-counted r s left told e =
-        ap (λ (x : SL.Listed). (listedAs x, left)) e ∙ counted-as o p t left s (told ∙ ap (λ (j : SJ.Job). ran j o t) is) ∙ leaves-answered t _ _ (sym good ∙ asked)
+        ap (λ (x : SL.Listed). (listedAs x, left)) e ∙ counted-as o p t left s (told ∙ ap (λ (j : SJ.Job). ran j o o t) is) ∙ leaves-answered t _ _ (sym good ∙ asked)
 
 module _ {M : Type 1} (𝓤 : URA M) (H : Heap 𝓤) (𝓜 : Model 𝓤 H) (𝓖 : GhostRules 𝓤 H) (𝓡 : Running 𝓤 H 𝓜) where
   abbrev 𝓣 : Tables 𝓤 H
@@ -78,7 +78,7 @@ module _ {M : Type 1} (𝓤 : URA M) (H : Heap 𝓤) (𝓜 : Model 𝓤 H) (𝓖
       (λ good.
       calls 𝓣 ! 5 [] (val p ∷ []) Job (λ xs. counting.met 𝓤 H 𝓜 𝓖 𝓡 (bound (val p ∷ []) xs, tt)) tt refl refl (λ job is-job _ is _.
       relend ! 5 events refl refl $ relend ! 5 paths refl refl $ relend ! 5 plain refl refl $ relend ! 5 undetected refl refl $ relend ! 5 work refl refl $
-      let running : List Par = res Job job is-job ∷ val order ∷ all-of events ∷ all-of paths ∷ all-of plain ∷ all-of undetected ∷ all-of work ∷ [] in
+      let running : List Par = res Job job is-job ∷ val order ∷ val order ∷ all-of events ∷ all-of paths ∷ all-of plain ∷ all-of undetected ∷ all-of work ∷ [] in
       calls-into 𝓣 ! 5 (0 ∷ 1 ∷ 2 ∷ 3 ∷ 4 ∷ []) running Searched none (λ xs. run.met 𝓤 H 𝓜 𝓖 𝓡 (bound running xs, tt)) (asks (givenOf 𝓤 H 𝓜 𝓖) (may-run o (p .it) t why asked (is-zero why good) job is)) tt refl refl (λ s is-s (es, (ls, (ms, (ds, (us, _))))) told (ke, (kl, (km, (kd, (ku, _))))).
       calls 𝓣 ! 5 [] (res Searched s is-s ∷ []) Listed (λ xs. listed-of.met 𝓤 H 𝓜 𝓖 𝓡 (bound (res Searched s is-s ∷ []) xs, tt)) tt refl refl (λ r is-r _ e _.
       finish 𝓣 ! 5 (ends r is-r (es, (ls, (ms, (ds, (us, tt))))) (ke, (kl, (km, (kd, (ku, tt)))))

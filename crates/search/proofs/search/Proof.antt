@@ -10,15 +10,15 @@ use Rattle.order.specs.Answers.{orderIn}
 use Rattle.order.specs.Order as O
 use Rattle.order.proofs.FirstNo.{leaves-refused, leaves-answered}
 use Rattle.events.proofs.Plains.{Order}
-use Rattle.listing.specs.Calls.{unlessTooMany}
 use Rattle.search.specs.declared.Searched as SS
 use Rattle.search.specs.declared.Searched.the-variants.{Refused}
 use Rattle.search.specs.declared.Job as SJ
 use Rattle.search.specs.declared.Job.the-variants.{Choose}
-use Rattle.search.specs.Calls.{Found, SearchTables, searchTables, searchedAs, searchQuestions, clearedSearch, searchCall}
-use Rattle.search.specs.Model.Steps.{jobDone, ran, ToRun}
+use Rattle.search.specs.Calls.{Found, SearchTables, searchTables, searchedAs, searchQuestions, searchCall}
+use Rattle.search.specs.Model.Steps.{ran, ToRun}
 use Rattle.search.proofs.Plains.{Searched, Job, tables}
 use Rattle.search.proofs.Accepts.{may-choose}
+use Rattle.search.proofs.Answers.{ran-choose}
 use Rattle.search.proofs.ask_search.Met as ask-search
 use Rattle.search.proofs.refuse.Met as refuse
 use Rattle.search.proofs.choosing.Met as choosing
@@ -37,12 +37,12 @@ module _ (o : O.Order) (t : SearchTables) (why : ℕ) (asked : why ≡ firstNo (
   is-refused r e n = ap (λ (x : SS.Searched). (searchedAs x, t)) e ∙ leaves-refused t _ why _ asked n
 
   module _ (good : why ≡ 0) (job : SJ.Job) (is : job ≡ Choose) where
-    may-run : ToRun job o (t .plain) (t .undetected) (t .work)
+    may-run : ToRun job o o (t .plain) (t .undetected) (t .work)
     may-run = rw is (may-choose o t (sym asked ∙ good))
 
-    is-found : (x : Answer Found × SearchTables) → x ≡ ran job o t → x ≡ searchCall o t
-    unfolding searchCall ran jobDone
-    is-found x e = e ∙ ap (λ (j : SJ.Job). unlessTooMany o (length (t .events)) (length (t .paths)) (clearedSearch t) (jobDone j o t)) is ∙ leaves-answered t _ _ (sym good ∙ asked)
+    is-found : (x : Answer Found × SearchTables) → x ≡ ran job o o t → x ≡ searchCall o t
+    unfolding searchCall
+    is-found x e = e ∙ ran-choose o o t job is ∙ leaves-answered t _ _ (sym good ∙ asked)
 
 module _ {M : Type 1} (𝓤 : URA M) (H : Heap 𝓤) (𝓜 : Model 𝓤 H) (𝓖 : GhostRules 𝓤 H) (𝓡 : Running 𝓤 H 𝓜) where
   abbrev 𝓣 : Tables 𝓤 H
@@ -72,7 +72,7 @@ module _ {M : Type 1} (𝓤 : URA M) (H : Heap 𝓤) (𝓜 : Model 𝓤 H) (𝓖
       (λ good.
       calls 𝓣 ! 5 [] [] Job (λ xs. choosing.met 𝓤 H 𝓜 𝓖 𝓡 (bound [] xs, tt)) tt refl refl (λ job is-job _ is _.
       relend ! 5 events refl refl $ relend ! 5 paths refl refl $ relend ! 5 plain refl refl $ relend ! 5 undetected refl refl $ relend ! 5 work refl refl $
-      let running : List Par = res Job job is-job ∷ ps in
+      let running : List Par = res Job job is-job ∷ val order ∷ ps in
       calls-into 𝓣 ! 5 (0 ∷ 1 ∷ 2 ∷ 3 ∷ 4 ∷ []) running Searched none (λ xs. run.met 𝓤 H 𝓜 𝓖 𝓡 (bound running xs, tt)) (asks (givenOf 𝓤 H 𝓜 𝓖) (may-run o t why asked (is-zero why good) job is)) tt refl refl (λ r is-r (es, (ls, (ms, (ds, (us, _))))) told (ke, (kl, (km, (kd, (ku, _))))).
       finish 𝓣 ! 5 (ends r is-r (es, (ls, (ms, (ds, (us, tt))))) (ke, (kl, (km, (kd, (ku, tt)))))
       (is-found o t why asked (is-zero why good) job is _ told)) refl refl)))))

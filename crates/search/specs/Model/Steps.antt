@@ -10,7 +10,8 @@ use Rattle.poly.specs.Poly.{HasDegree}
 use Rattle.order.specs.Questions.{workSize}
 use Rattle.order.specs.Order.{Order}
 use Rattle.order.specs.Answer.{Answer, accepted}
-use Rattle.order.specs.Model.Accepted.{AcceptedWhole}
+use Rattle.order.specs.Model.Accepted.{Accepted, AcceptedWhole}
+use Rattle.order.specs.Model.Lengths.{NoLonger}
 use Rattle.events.specs.Events.{events}
 use Rattle.paths.specs.Paths.{paths}
 use Rattle.listing.specs.Calls.{unlessTooMany}
@@ -61,15 +62,18 @@ pub record ToFinish (job : Job) (bits m d : ℕ) (table plain undetected : List 
   pub choose : ToChoose bits d m table plain undetected
   pub job-fits : JobFits job m
 
-unfoldable pub jobDone : Job → Order → SearchTables → Answer Found × SearchTables
-jobDone J.Choose o t = chosen o t (choice o)
-jobDone (J.Count p) o t = (accepted (found (length (events o)) (length (paths o)) p), filledSearch o (undetectedCounts o p) t)
+unfoldable pub jobDone : Job → (longer o : Order) → SearchTables → Answer Found × SearchTables
+jobDone J.Choose longer o t = chosen longer o t (choice o)
+jobDone (J.Count p) longer o t = (accepted (found (length (events o)) (length (paths o)) p), filledSearch longer o (undetectedCounts o p) t)
 
-unfoldable pub ran : Job → Order → SearchTables → Answer Found × SearchTables
-ran job o t = unlessTooMany o (length (t .events)) (length (t .paths)) (clearedSearch t) (jobDone job o t)
+unfoldable pub ran : Job → (longer o : Order) → SearchTables → Answer Found × SearchTables
+ran job longer o t = unlessTooMany longer o (length (t .events)) (length (t .paths)) (clearedSearch t) (jobDone job longer o t)
 
-pub record ToRun (job : Job) (o : Order) (plain undetected work : List ℕ) : Type 0 where
+-- what is asked: the events are collected for the first order, the row is the second's
+pub record ToRun (job : Job) (longer o : Order) (plain undetected work : List ℕ) : Type 0 where
+  pub collected : Accepted longer
   pub order : AcceptedWhole o
+  pub no-longer : NoLonger o longer
   pub plain-room : o .d ≤ length plain
   pub undetected-room : o .d ≤ length undetected
   pub wide : workSize ≤ length work

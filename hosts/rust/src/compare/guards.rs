@@ -8,6 +8,7 @@ use dohvrin::Event;
 const GUARDS: usize = 9;
 
 /// A table of so many entries among guards.
+#[derive(PartialEq)]
 pub struct Guarded<T>(Vec<T>);
 
 /// What a table holds before a call.

@@ -41,6 +41,8 @@ pub struct Tables {
     pub input: Input,
     pub d: u64,
     pub events: Vec<Event>,
+    /// How many of them the row has: all, but for a quote.
+    pub told: usize,
     pub words: Vec<u128>,
     pub counts: Vec<u64>,
 }
@@ -49,12 +51,8 @@ impl Tables {
     /// Of a small order: its events without a cut, where they are few enough
     /// for that, and its paths among all words one by one.
     pub fn small(input: Input, d: u64) -> Tables {
-        let code = input.code();
-        let events = events::walked(code, size(d), STEPS)
-            .or_else(|| events::collect(code, size(d), usize::MAX, WORK).ok())
-            .expect("a right code");
-        let paths = listing::list(code, size(d), usize::MAX).expect("a right code");
-        Tables::new(input, d, events.iter().map(entry_of).collect(), paths)
+        let paths = listing::list(input.code(), size(d), usize::MAX).expect("a right code");
+        Tables::new(input, d, small_events(input, d), paths)
     }
 
     pub fn new(input: Input, d: u64, events: Vec<Event>, paths: Vec<(u32, u128)>) -> Tables {
@@ -62,6 +60,7 @@ impl Tables {
         Tables {
             input,
             d,
+            told: events.len(),
             events,
             words: paths.into_iter().map(|(_, word)| word).collect(),
             counts: counts.into_iter().map(|count| count as u64).collect(),
@@ -99,6 +98,15 @@ impl Tables {
             Ok(self)
         }
     }
+}
+
+/// The events of a small order.
+pub fn small_events(input: Input, d: u64) -> Vec<Event> {
+    let code = input.code();
+    let events = events::walked(code, size(d), STEPS)
+        .or_else(|| events::collect(code, size(d), usize::MAX, WORK).ok())
+        .expect("a right code");
+    events.iter().map(entry_of).collect()
 }
 
 /// Tables exactly full, odd, larger and far larger; then each too small, empty

@@ -15,6 +15,7 @@ mod listed;
 mod orders;
 mod part;
 mod paths;
+mod quote;
 mod random;
 mod records;
 mod search;
@@ -32,6 +33,7 @@ use tally::Tally;
 const USAGE: &str = "\
 usage: compare                  every call
        compare --short          every call on few inputs, as for valgrind
+       compare --quotes N       every length of so many orders, alone
        compare --records N      so many orders by record alone
        compare --sizes N        so many orders whose sizes are counted, alone
        compare --rows FILE...   the stored cases of these files";
@@ -41,7 +43,7 @@ type Family = fn(u64) -> Tally;
 
 /// Every family with its number of inputs, and that of a short run, in which
 /// each question still refuses some. The two large orders are not in it.
-const FAMILIES: [(Family, u64, u64); 23] = [
+const FAMILIES: [(Family, u64, u64); 27] = [
     (checks::append, 400_000, 1_000),
     (checks::strip, 400_000, 1_000),
     (checks::test, 400_000, 1_000),
@@ -61,6 +63,10 @@ const FAMILIES: [(Family, u64, u64); 23] = [
     (search::small_tables, 600, 12),
     (search::long_tables, 60, 4),
     (search::large_tables, 1, 0),
+    (quote::quote, 2_500, 200),
+    (quote::small_tables, 2_000, 10),
+    (quote::long_tables, 40, 3),
+    (quote::shorter_events, 1_500, 20),
     (sizes::counted, 4_000, 20),
     (texts::row_text, 100_000, 300),
     (texts::refusal_text, 100_000, 300),
@@ -91,17 +97,18 @@ fn run(arguments: &[String]) -> Result<(u64, u64), String> {
     match words[..] {
         [] => Ok(tallied(FAMILIES.map(|(call, inputs, _)| (call, inputs)))),
         ["--short"] => Ok(tallied(FAMILIES.map(|(call, _, few)| (call, few)))),
-        ["--records", number] => {
-            let records = number.parse().map_err(|_| format!("{number}: no number"))?;
-            Ok(tallied([(orders::orders as Family, records)]))
-        }
-        ["--sizes", number] => {
-            let orders = number.parse().map_err(|_| format!("{number}: no number"))?;
-            Ok(tallied([(sizes::counted as Family, orders)]))
-        }
+        ["--quotes", number] => alone(quote::small_tables, number),
+        ["--records", number] => alone(orders::orders, number),
+        ["--sizes", number] => alone(sizes::counted, number),
         ["--rows", _, ..] => stored::rows(&arguments[1..]),
         _ => Err(USAGE.to_string()),
     }
+}
+
+/// One family on so many inputs.
+fn alone(family: Family, number: &str) -> Result<(u64, u64), String> {
+    let inputs = number.parse().map_err(|_| format!("{number}: no number"))?;
+    Ok(tallied([(family, inputs)]))
 }
 
 fn tallied(families: impl IntoIterator<Item = (Family, u64)>) -> (u64, u64) {

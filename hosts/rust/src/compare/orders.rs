@@ -4,8 +4,9 @@
 
 use crate::random::Random;
 use crate::records;
+use crate::searched::Asked;
 use crate::tally::Tally;
-use dohvrin::Tables;
+use dohvrin::{Quote, Tables};
 use dso_ref::row::row;
 use dso_ref::{Failure, Lent, Method, Order};
 
@@ -23,7 +24,7 @@ pub fn orders(inputs: u64) -> Tally {
         let (bytes, size) = records::damaged(&mut random, bytes);
         let bytes = &bytes[..size];
         let (refusal, expected) = second(bytes);
-        let text = answer(&mut tables, bytes, None);
+        let text = answer(&mut tables, bytes, Asked::Best);
         let version = records::version_in(bytes);
         tally.count_of(version, refusal, text == expected, || {
             let shown = &bytes[..size.min(40)];
@@ -56,12 +57,12 @@ pub fn lend(lent: Lent) -> Tables {
     Tables::with_entries(lent.events, lent.paths)
 }
 
-/// The text of the row of a record, with the best polynomial or the one that is
-/// given, or of the refusal.
-pub fn answer(tables: &mut Tables, bytes: &[u8], of: Option<u64>) -> String {
-    let row = dohvrin::Order::from_record(bytes).and_then(|order| match of {
-        None => tables.search(&order),
-        Some(p) => tables.count(&order, p),
+/// The text of the row of a record that is asked for, or of the refusal.
+pub fn answer(tables: &mut Tables, bytes: &[u8], asked: Asked) -> String {
+    let row = dohvrin::Order::from_record(bytes).and_then(|order| match asked {
+        Asked::Best => tables.search(&order),
+        Asked::Of(p) => tables.count(&order, p),
+        Asked::Quote(bits) => Quote::of(order.any(), bits).and_then(|quote| tables.quote(&quote)),
     });
     match row {
         Ok(row) => row.text(),

@@ -7,7 +7,7 @@ use crate::guards::entry_of;
 use crate::listed::{any_tables, draw_size, draw_small, Tables, EVENTS, PATHS};
 use crate::paths::{TABLE_1, TABLE_2};
 use crate::random::Random;
-use crate::searched::{compare, draw, draw_polynomial, draw_sizes, full, within, Call};
+use crate::searched::{compare, draw, draw_polynomial, draw_sizes, full, within, Asked, Call};
 use crate::searched::{right_polynomial, wrong_polynomial};
 use crate::tally::Tally;
 use crate::{number, size};
@@ -26,27 +26,28 @@ const LONG_TABLES: usize = 1 << 15;
 /// Any orders, right and damaged, of any length.
 pub fn search(inputs: u64) -> Tally {
     let tally = Tally::of_links("search", &[2, 3, 4, 5, 6, 7, 8, 9, 16, 10, 13, 14, 15]);
-    any(inputs, tally, 0x5EA8C4, |_, _| None)
+    any(inputs, tally, 0x5EA8C4, |_, _| {})
 }
 
 /// The same for the counts of any polynomial, right or damaged.
 pub fn count(inputs: u64) -> Tally {
     let tally = Tally::of_links("count", &[2, 3, 4, 5, 6, 7, 8, 9, 16, 10, 11, 13, 14]);
-    any(inputs, tally, 0xC0147, |random, m| {
-        Some(draw_polynomial(random, m))
+    any(inputs, tally, 0xC0147, |random, call| {
+        call.asked = Asked::Of(draw_polynomial(random, call.m));
     })
 }
 
-fn any(
+/// Any calls, in each of which `ask` says what is asked for.
+pub fn any(
     inputs: u64,
     mut tally: Tally,
     seed: u64,
-    of: impl Fn(&mut Random, u64) -> Option<u64>,
+    ask: impl Fn(&mut Random, &mut Call),
 ) -> Tally {
     let mut random = Random::new(seed);
     for _ in 0..inputs {
         let mut call = draw(&mut random);
-        call.of = of(&mut random, call.m);
+        ask(&mut random, &mut call);
         if let Err(refusal) = call.order() {
             any_tables(&mut random, &mut call.lent.listing);
             compare(&mut tally, &call, Err(refusal));
@@ -63,7 +64,8 @@ fn any(
                 continue;
             }
         };
-        let many = listing::list(input.code(), d, PATHS);
+        let row = call.input_of_row();
+        let many = listing::list(row.code(), d, PATHS);
         let paths = many.as_ref().map_or(PATHS, Vec::len);
         let listing = &mut call.lent.listing;
         listing.events = draw_size(&mut random, events.len(), true);
@@ -75,7 +77,9 @@ fn any(
             Err(no) => compare(&mut tally, &call, Err(number(no))),
             Ok(paths) => {
                 let best = call.best(&mut Words::listed(d, &paths));
-                let tables = Tables::new(input, call.d, events, paths);
+                let told = call.told(events.len());
+                let tables = Tables::new(row, call.d, events, paths);
+                let tables = Tables { told, ..tables };
                 compare(&mut tally, &call, within(&call, &tables, &best));
             }
         }
@@ -103,27 +107,28 @@ pub fn small_tables(orders: u64) -> Tally {
         if input.bits == input.v {
             tally.count_kind();
         }
-        for of in [None, Some(right_polynomial(&mut random, m))] {
+        for asked in [Asked::Best, Asked::Of(right_polynomial(&mut random, m))] {
             let full = full(&tables, d);
             let call = Call {
                 input,
                 m,
                 d,
-                of,
+                asked,
                 lent: full,
             };
             let order = call.order().expect("a right order");
             let best = call.best(&mut Words::new(&order).expect("a short order"));
-            if m <= TABLED || of.is_some() {
+            let of_one = matches!(asked, Asked::Of(_));
+            if m <= TABLED || of_one {
                 assert_eq!(best, call.best(&mut Table::new(&order)), "{call:?}");
             }
             for lent in draw_sizes(&mut random, &tables, full) {
                 let call = Call { lent, ..call };
                 compare(&mut tally, &call, within(&call, &tables, &best));
             }
-            if of.is_some() {
+            if of_one {
                 let wrong = Call {
-                    of: Some(wrong_polynomial(&mut random, m)),
+                    asked: Asked::Of(wrong_polynomial(&mut random, m)),
                     ..call
                 };
                 compare(&mut tally, &wrong, Err(11));
@@ -152,13 +157,13 @@ pub fn long_tables(orders: u64) -> Tally {
             continue;
         }
         let tables = Tables::new(input, d, events.iter().map(entry_of).collect(), paths);
-        for of in [None, Some(right_polynomial(&mut random, m))] {
+        for asked in [Asked::Best, Asked::Of(right_polynomial(&mut random, m))] {
             let full = full(&tables, d);
             let call = Call {
                 input,
                 m,
                 d,
-                of,
+                asked,
                 lent: full,
             };
             let order = call.order().expect("a right order");
@@ -199,14 +204,14 @@ fn large(tally: &mut Tally, tables: &Tables, m: u64, d: u64, polynomial: u64) {
         input: tables.input,
         m,
         d,
-        of: Some(polynomial),
+        asked: Asked::Of(polynomial),
         lent: full(tables, d),
     };
     let mut table = Table::new(&call.order().expect("a right order"));
     let counts = tables.counts.iter().map(|&count| u128::from(count));
     assert!(counts.eq(table.plain(size(d))), "{call:?}: plain counts");
     let best = call.best(&mut table);
-    call.of = None;
+    call.asked = Asked::Best;
     compare(tally, &call, Ok((tables, &best)));
 }
 
@@ -220,6 +225,7 @@ fn listed(input: Input, d: u64, events: usize, paths: usize) -> Tables {
     Tables {
         input,
         d,
+        told: events,
         events: table,
         words: dohvrin::words(&numbers).collect(),
         counts,

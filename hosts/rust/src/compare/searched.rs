@@ -1,5 +1,5 @@
-//! One call of a search or a count, with its five lent tables: what it must
-//! answer and leave. Whole tables are compared, and what stands around them.
+//! One call of a search, a count or a quote, with its five lent tables: what it
+//! must answer and leave. Whole tables are compared, and what stands around them.
 
 use crate::codes::Input;
 use crate::guards::Guarded;
@@ -10,18 +10,28 @@ use crate::tally::Tally;
 use crate::{number, size};
 use dohvrin::calls::{self, Row};
 use dohvrin::{AnyOrder, Found, Listed, Searched};
+use dso_ref::quote::Quote;
 use dso_ref::search::{best, Best, Counter};
-use dso_ref::{questions, Order, Refusal};
+use dso_ref::{events, questions, Order, Refusal};
 
-/// One call: the order, the polynomial where counts are asked for, and the
-/// sizes of what is lent.
+/// One call: the order, what is asked for, and the sizes of what is lent.
 #[derive(Clone, Copy, Debug)]
 pub struct Call {
     pub input: Input,
     pub m: u64,
     pub d: u64,
-    pub of: Option<u64>,
+    pub asked: Asked,
     pub lent: Sizes,
+}
+
+#[derive(Clone, Copy, Debug)]
+pub enum Asked {
+    /// The best polynomial.
+    Best,
+    /// The counts of this one.
+    Of(u64),
+    /// The best for this length, from the events for the order's.
+    Quote(u64),
 }
 
 /// The tables of a listing, and the undetected counts.
@@ -40,31 +50,55 @@ impl Call {
         }
     }
 
-    /// The order, or the number of the first question before 13 that says no.
+    /// What the row is for: another length, where that is quoted.
+    pub fn input_of_row(&self) -> Input {
+        match self.asked {
+            Asked::Quote(bits) => Input { bits, ..self.input },
+            _ => self.input,
+        }
+    }
+
+    /// The order of the row, or the number of the first question before 13 that
+    /// says no.
     pub fn order(&self) -> Result<Order, u64> {
         let (m, d) = (size(self.m), size(self.d));
         let code = self.input.code();
+        let order = match self.asked {
+            Asked::Quote(bits) => Quote::new(code, m, d, size(bits)).map(|quote| quote.short),
+            _ => Order::new(code, m, d),
+        };
         let asked = |order: Order| {
             questions::count_entries(self.lent.listing.counts, d)?;
             questions::count_entries(self.lent.undetected, d)?;
             questions::work_size(self.lent.listing.work)?;
-            if let Some(p) = self.of {
+            if let Asked::Of(p) = self.asked {
                 questions::polynomial(p, m)?;
             }
             Ok::<_, Refusal>(order)
         };
-        Order::new(code, m, d).and_then(asked).map_err(number)
+        order.and_then(asked).map_err(number)
+    }
+
+    /// How many events the row has, where so many are in the table: for another
+    /// length they are counted anew.
+    pub fn told(&self, events: usize) -> usize {
+        match (self.asked, self.order()) {
+            (Asked::Quote(_), Ok(order)) => {
+                events::count(&order, usize::MAX).expect("room for any")
+            }
+            _ => events,
+        }
     }
 
     /// The best counts, or those of the call's polynomial.
     pub fn best(&self, counter: &mut impl Counter) -> Best {
         let plain = counter.plain(size(self.d));
-        match self.of {
-            None => best(counter, size(self.m), &plain),
-            Some(p) => Best {
+        match self.asked {
+            Asked::Of(p) => Best {
                 counts: counter.undetected(p, plain.len()),
                 who: vec![p],
             },
+            _ => best(counter, size(self.m), &plain),
         }
     }
 }
@@ -94,18 +128,21 @@ pub fn compare(tally: &mut Tally, call: &Call, expected: Expected) {
         15 => Ok(Searched::Tied(answer.left)),
         number => Err(number),
     };
-    let (raw, raw_left) = Lent::new(call.lent).raw(call, expected);
+    let mut lent = Lent::new(call.lent);
+    let raw = lent.raw(call);
+    let (raw_left, as_fresh) = (lent.is_left(expected), lent.is_fresh(call, raw));
     let (safe, safe_left) = Lent::new(call.lent).safe(call, expected);
-    let same = raw == answer && safe == plain && raw_left && safe_left;
+    let same = raw == answer && safe == plain && raw_left && safe_left && as_fresh;
     tally.count_of(call.input.version, answer.refusal, same, || {
         format!(
             "{call:?}: library {raw:?} {safe:?}, second tool {answer:?}, \
-             memory as it should be: {raw_left} {safe_left}"
+             memory as it should be: {raw_left} {safe_left}, as a search leaves it: {as_fresh}"
         )
     });
 }
 
-/// The answer of a search; that of a count says as much, but for the polynomial.
+/// The answer of a search or a quote; that of a count says as much, but for the
+/// polynomial.
 fn answer_of(expected: Expected) -> Row {
     match expected {
         Err(refusal) => Row {
@@ -114,7 +151,7 @@ fn answer_of(expected: Expected) -> Row {
         },
         Ok((tables, best)) => match best.who[..] {
             [polynomial] => Row {
-                events: tables.events.len() as u64,
+                events: tables.told as u64,
                 paths: tables.words.len() as u64,
                 polynomial,
                 ..Row::default()
@@ -152,11 +189,12 @@ impl Lent {
         }
     }
 
-    fn raw(mut self, call: &Call, expected: Expected) -> (Row, bool) {
+    fn raw(&mut self, call: &Call) -> Row {
         let order = call.given();
-        let answer = match call.of {
-            None => calls::search(order, self.lent()),
-            Some(polynomial) => {
+        match call.asked {
+            Asked::Best => calls::search(order, self.lent()),
+            Asked::Quote(bits) => calls::quote(order, bits, self.lent()),
+            Asked::Of(polynomial) => {
                 let answer = calls::count(order, polynomial, self.lent());
                 Row {
                     refusal: answer.refusal,
@@ -166,15 +204,36 @@ impl Lent {
                     left: 0,
                 }
             }
+        }
+    }
+
+    /// Whether a search for the length of a quote, with tables of the same sizes,
+    /// answers and leaves the same; the event table is another one. It need not
+    /// where the quote was refused by 13 or before.
+    fn is_fresh(&self, call: &Call, quoted: Row) -> bool {
+        let (Asked::Quote(bits), 0 | 14 | 15) = (call.asked, quoted.refusal) else {
+            return true;
         };
-        (answer, self.is_left(expected))
+        let mut fresh = Lent::new(call.lent);
+        let order = AnyOrder {
+            bits,
+            ..call.given()
+        };
+        let answer = calls::search(order, fresh.lent());
+        let (ours, theirs) = (&self.listing, &fresh.listing);
+        answer == quoted
+            && ours.paths == theirs.paths
+            && ours.counts == theirs.counts
+            && self.undetected == fresh.undetected
+            && ours.work == theirs.work
     }
 
     fn safe(mut self, call: &Call, expected: Expected) -> (Result<Searched, u64>, bool) {
         let order = call.given();
-        let answer = match call.of {
-            None => dohvrin::search(order, self.lent()),
-            Some(polynomial) => {
+        let answer = match call.asked {
+            Asked::Best => dohvrin::search(order, self.lent()),
+            Asked::Quote(bits) => dohvrin::quote(order, bits, self.lent()),
+            Asked::Of(polynomial) => {
                 let answer = dohvrin::count(order, polynomial, self.lent());
                 answer.map(|Listed { events, paths }| {
                     Searched::Found(Found {
@@ -251,7 +310,7 @@ pub fn draw(random: &mut Random) -> Call {
         input,
         m,
         d,
-        of: None,
+        asked: Asked::Best,
         lent: Sizes {
             listing,
             undetected,

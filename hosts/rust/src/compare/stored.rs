@@ -2,6 +2,7 @@
 //! sizes that a case says.
 
 use crate::orders::{answer, lend};
+use crate::searched::Asked;
 use dso_ref::Lent;
 use run_rows::cases::{self, Case};
 
@@ -14,8 +15,8 @@ pub fn rows(files: &[String]) -> Result<(u64, u64), String> {
         let cases = cases::read(&text).map_err(|wrong| format!("{file}: {wrong}"))?;
         for case in cases {
             let at = format!("{file}:{} {}", case.line, case.name);
-            let (lent, of) = asked(&case).ok_or_else(|| format!("{at}: not understood"))?;
-            let text = answer(&mut lend(lent), &case.record, of);
+            let (lent, asked) = asked(&case).ok_or_else(|| format!("{at}: not understood"))?;
+            let text = answer(&mut lend(lent), &case.record, asked);
             if text == case.expected {
                 passed += 1;
                 continue;
@@ -27,8 +28,8 @@ pub fn rows(files: &[String]) -> Result<(u64, u64), String> {
     Ok((passed, failed))
 }
 
-/// The sizes of the tables, and the polynomial where counts are asked for.
-fn asked(case: &Case) -> Option<(Lent, Option<u64>)> {
+/// The sizes of the tables, and what is asked for.
+fn asked(case: &Case) -> Option<(Lent, Asked)> {
     let lent = match &case.tables {
         None => Lent::default(),
         Some((events, paths)) => Lent {
@@ -36,9 +37,11 @@ fn asked(case: &Case) -> Option<(Lent, Option<u64>)> {
             paths: paths.parse().ok()?,
         },
     };
-    let of = match &case.of {
-        None => None,
-        Some(polynomial) => Some(u64::from_str_radix(polynomial.strip_prefix("0x")?, 16).ok()?),
+    let asked = match (&case.of, &case.quote) {
+        (None, None) => Asked::Best,
+        (Some(p), None) => Asked::Of(u64::from_str_radix(p.strip_prefix("0x")?, 16).ok()?),
+        (None, Some(length)) => Asked::Quote(length.parse().ok()?),
+        _ => return None,
     };
-    Some((lent, of))
+    Some((lent, asked))
 }

@@ -1,5 +1,6 @@
 //! The command line.
 
+use crate::asked::Asked;
 use crate::desk::Desk;
 use crate::memory::Memory;
 use crate::numbers::{digits, Numbers};
@@ -35,8 +36,8 @@ pub enum Task {
 /// The command line, read.
 pub struct Args {
     pub task: Task,
-    /// The polynomial whose counts are wanted, rather than the search.
-    pub of: Option<u64>,
+    /// What is asked for of each order: one row at least.
+    pub asked: Vec<Asked>,
     pub json: bool,
     /// The kind of link of an order that does not say it.
     pub link: Link,
@@ -44,7 +45,7 @@ pub struct Args {
     pub jobs: usize,
     /// MiB that event and path tables may have.
     memory: usize,
-    /// Their sizes, where they are not those that an order needs.
+    /// Their sizes, where they are not those that a row needs.
     entries: Option<Entries>,
 }
 
@@ -52,7 +53,6 @@ impl Args {
     /// What rows are made with.
     pub fn desk(&self) -> Desk {
         Desk {
-            of: self.of,
             entries: self.entries,
             memory: Memory::new(self.memory << 20),
         }
@@ -65,6 +65,7 @@ struct Options {
     json: bool,
     terminated: bool,
     of: Option<u64>,
+    quote: Vec<u64>,
     jobs: Option<usize>,
     memory: Option<usize>,
     events: Option<usize>,
@@ -107,7 +108,7 @@ pub fn read(arguments: impl Iterator<Item = String>) -> Result<Args, String> {
     }
     options.check()?;
     Ok(Args {
-        of: options.of,
+        asked: options.asked(),
         json: options.json,
         link: options.link(),
         jobs: options.jobs()?,
@@ -132,6 +133,7 @@ impl Options {
             "--json" => self.json = true,
             "--terminated" => self.terminated = true,
             "--of" => self.of = Some(polynomial(&value()?)?),
+            "--quote" => self.quote.extend(lengths(&value()?)?),
             "--jobs" => self.jobs = Some(jobs(&value()?)?),
             "--memory" => self.memory = Some(memory(&value()?)?),
             "--events" => self.events = Some(entries(option, &value()?)?),
@@ -157,19 +159,35 @@ impl Options {
 
     /// What may not stand together.
     fn check(&self) -> Result<(), String> {
-        let (json, of) = match self.other {
-            None | Some(Other::List(_)) => (true, true),
-            Some(Other::Check(_)) => (false, true),
-            _ => (false, false),
+        let (json, of, quote) = match self.other {
+            None | Some(Other::List(_)) => (true, true, true),
+            Some(Other::Check(_)) => (false, true, false),
+            Some(Other::Checklist) => (false, false, true),
+            Some(Other::Record | Other::RecordHex) => (false, false, false),
         };
+        let (has_of, has_quote) = (self.of.is_some(), !self.quote.is_empty());
         let other = self.other.as_ref().map_or("", Other::option);
-        if self.json && !json {
-            return Err(format!("--json: not together with {other}"));
+        for (option, given, may_stand) in [
+            ("--json", self.json, json),
+            ("--of", has_of, of),
+            ("--quote", has_quote, quote),
+        ] {
+            if given && !may_stand {
+                return Err(format!("{option}: not together with {other}"));
+            }
         }
-        if self.of.is_some() && !of {
-            return Err(format!("--of: not together with {other}"));
+        if has_of && has_quote {
+            return Err("--quote: not together with --of".to_string());
         }
         Ok(())
+    }
+
+    fn asked(&self) -> Vec<Asked> {
+        match self.of {
+            Some(polynomial) => vec![Asked::Of(polynomial)],
+            None if self.quote.is_empty() => vec![Asked::Best],
+            None => self.quote.iter().map(|&bits| Asked::Quote(bits)).collect(),
+        }
     }
 
     fn link(&self) -> Link {
@@ -241,6 +259,13 @@ fn polynomial(value: &str) -> Result<u64, String> {
         .strip_prefix("0x")
         .and_then(|word| digits(word, 16))
         .ok_or_else(|| format!("--of {value}: not a polynomial in hexadecimal such as 0x61"))
+}
+
+/// One length, or several between commas.
+fn lengths(value: &str) -> Result<Vec<u64>, String> {
+    let all = value.split(',').map(|word| digits(word, 10));
+    all.collect::<Option<_>>()
+        .ok_or_else(|| format!("--quote {value}: not lengths such as 70 or 70,64"))
 }
 
 fn jobs(value: &str) -> Result<usize, String> {

@@ -1,7 +1,6 @@
 //! Whether rows that were printed before are what is computed now.
 
 use crate::args::Args;
-use crate::desk::Desk;
 use crate::jobs::{self, Notes};
 use crate::numbers::{kind_of, Numbers};
 use crate::{put, text_of, Stop};
@@ -17,9 +16,10 @@ pub fn write(file: &str, args: &Args) -> Result<(), Stop> {
     }
     let (desk, link, checked) = (args.desk(), args.link, rows.len());
     let (mut at, mut differ) = (0, 0);
+    let asked = args.asked[0];
     let compare = move |row: &Vec<String>, notes: Notes| {
-        let difference = difference(row, link, &desk, notes);
-        (row[0].trim().to_string(), difference)
+        let lines = |numbers: &Numbers| desk.lines(numbers, asked, notes);
+        (row[0].trim().to_string(), difference(row, link, lines))
     };
     jobs::run(rows, args.jobs, compare, |(order, difference)| {
         at += 1;
@@ -62,16 +62,16 @@ fn without_kind(line: &str) -> &str {
 
 /// How a printed row differs from what is computed now. A row does not say the
 /// kind of its link: one that holds for the other kind is told as that.
-fn difference(row: &[String], link: Link, desk: &Desk, notes: Notes) -> Option<String> {
+fn difference(row: &[String], link: Link, lines: impl Fn(&Numbers) -> String) -> Option<String> {
     let numbers = match Numbers::read_line(&row[0], link) {
         Ok(numbers) => numbers,
         Err(message) => return Some(format!("it is no order: {message}")),
     };
     let mut row: Vec<&str> = row.iter().map(String::as_str).collect();
     row[0] = without_kind(row[0]);
-    let how = unlike(&row, &desk.lines(&numbers, notes))?;
+    let how = unlike(&row, &lines(&numbers))?;
     let other = numbers.for_other_link();
-    let hint = match unlike(&row, &desk.lines(&other, notes)) {
+    let hint = match unlike(&row, &lines(&other)) {
         None => format!(
             "; it is the row of a {} link (see --terminated)",
             other.link()

@@ -1,17 +1,16 @@
-//! Rows from tables as large as an order needs.
+//! Rows from tables as large as they need.
 
+use crate::asked::{Asked, Wanted};
 use crate::jobs::{Note, Notes};
 use crate::memory::{Memory, Share};
 use crate::numbers::Numbers;
-use dohvrin::{Entries, NoRoom, Order, Refusal, Row, Tables};
+use dohvrin::{Entries, NoRoom, Refusal, Row, Tables};
 use std::sync::Arc;
 
-/// What rows are made with. Each order gets tables of its own, so that no row
+/// What rows are made with. Each row gets tables of its own, so that none
 /// depends on another.
 pub struct Desk {
-    /// The polynomial whose counts are wanted, rather than the search.
-    pub of: Option<u64>,
-    /// The sizes of the tables, where they are not those that an order needs.
+    /// The sizes of the tables, where they are not those that a row needs.
     pub entries: Option<Entries>,
     /// What the tables of all jobs share.
     pub memory: Arc<Memory>,
@@ -36,52 +35,45 @@ impl Made {
 }
 
 impl Desk {
-    /// The row of an order.
-    pub fn row(&self, order: &Order, notes: Notes) -> Made {
+    /// The row that is wanted.
+    pub fn row(&self, wanted: &Wanted, notes: Notes) -> Made {
         if let Some(entries) = self.entries {
-            let made = self.lend(order, entries, notes);
+            let made = self.lend(wanted, entries, notes);
             return made.unwrap_or_else(|no_room| self.refuse(no_room, notes));
         }
         notes(Note::Now("counting events and paths".to_string()));
-        if let Some(refusal) = self.refused_before(order) {
+        if let Some(refusal) = refused_before(wanted) {
             return Made::refused(refusal);
         }
-        match Entries::needed(order).within(self.memory.limit()) {
-            Ok(needed) => self.row_from(order, needed, notes),
+        match wanted.needed().within(self.memory.limit()) {
+            Ok(needed) => self.row_from(wanted, needed, notes),
             Err(no_room) => self.refuse(no_room, notes),
         }
     }
 
-    /// The lines of an order's row, or of its refusal under its ORDER line.
-    pub fn lines(&self, numbers: &Numbers, notes: Notes) -> String {
-        let line = numbers.to_string();
+    /// The lines of a row that is asked for, or of its refusal under its ORDER
+    /// line.
+    pub fn lines(&self, numbers: &Numbers, asked: Asked, notes: Notes) -> String {
+        let line = asked.printed(numbers).to_string();
         notes(Note::Now(line.replace("ORDER ", "")));
         let about = |note| {
             if let Note::Tell(message) = note {
                 notes(Note::Tell(format!("{line}: {message}")));
             }
         };
-        let row = |order: Order| self.row(&order, &about).answer;
-        match numbers.order().and_then(row) {
+        let row = |wanted: Wanted| self.row(&wanted, &about).answer;
+        match asked.of(numbers.any()).and_then(row) {
             Ok(row) => row.text(),
             Err(refusal) => format!("{line}\n{}", refusal.text()),
         }
     }
 
-    /// What the library refuses before it asks about the tables: for an order,
-    /// this can be the polynomial alone.
-    fn refused_before(&self, order: &Order) -> Option<Refusal> {
-        let polynomial = self.of?;
-        let refusal = Tables::with_entries(0, 0).count(order, polynomial).err()?;
-        (refusal != Refusal::Events).then_some(refusal)
-    }
-
     /// The row, with tables of these sizes at first: where they are too small
     /// after all, they grow.
-    fn row_from(&self, order: &Order, first: Entries, notes: Notes) -> Made {
+    fn row_from(&self, wanted: &Wanted, first: Entries, notes: Notes) -> Made {
         let mut entries = first;
         loop {
-            let made = match self.lend(order, entries, notes) {
+            let made = match self.lend(wanted, entries, notes) {
                 Ok(made) => made,
                 Err(no_room) => return self.refuse(no_room, notes),
             };
@@ -99,7 +91,7 @@ impl Desk {
     }
 
     /// What the library answers with tables of these sizes.
-    fn lend(&self, order: &Order, entries: Entries, notes: Notes) -> Result<Made, NoRoom> {
+    fn lend(&self, wanted: &Wanted, entries: Entries, notes: Notes) -> Result<Made, NoRoom> {
         let limit = self.memory.limit();
         let no_room = NoRoom {
             needed: entries,
@@ -111,10 +103,7 @@ impl Desk {
         let mut tables = Tables::of(entries).ok_or(no_room)?;
         notes(Note::Now(format!("tables of {entries}")));
         Ok(Made {
-            answer: match self.of {
-                Some(p) => tables.count(order, p),
-                None => tables.search(order),
-            },
+            answer: wanted.row(&mut tables),
             tables,
             _share: share,
         })
@@ -152,17 +141,27 @@ impl Desk {
     }
 }
 
+/// What the library refuses before it asks about the tables: of what is wanted
+/// this can be the polynomial alone.
+fn refused_before(wanted: &Wanted) -> Option<Refusal> {
+    let Wanted::Of(..) = wanted else {
+        return None;
+    };
+    let refusal = wanted.row(&mut Tables::with_entries(0, 0)).err()?;
+    (refusal != Refusal::Events).then_some(refusal)
+}
+
 #[cfg(test)]
 mod tests {
     use super::{Desk, Made};
+    use crate::asked::{Asked, Wanted};
     use crate::jobs::Note;
     use crate::memory::Memory;
-    use dohvrin::{Entries, Order, Refusal};
+    use dohvrin::{AnyOrder, Entries, Refusal};
     use std::cell::RefCell;
 
-    fn desk(of: Option<u64>, mebibytes: usize) -> Desk {
+    fn desk(mebibytes: usize) -> Desk {
         Desk {
-            of,
             entries: None,
             memory: Memory::new(mebibytes << 20),
         }
@@ -179,20 +178,22 @@ mod tests {
         (made, lines.into_inner())
     }
 
-    fn table_1(d: u64) -> Order {
-        Order::new(&[0o13, 0o17], 3, 70, 6, d).unwrap()
+    /// 13, 17 with N = 70 and m = 6.
+    fn table_1(asked: Asked, d: u64) -> Wanted {
+        let order = AnyOrder::new(&[0o13, 0o17], 3, 70, 6, d);
+        asked.of(order).unwrap()
     }
 
     #[test]
     fn a_wrong_count_is_told_and_made_good() {
-        let (order, desk) = (table_1(12), desk(None, 1));
-        let (right, lines) = told(|notes| desk.row(&order, notes));
+        let (wanted, desk) = (table_1(Asked::Best, 12), desk(1));
+        let (right, lines) = told(|notes| desk.row(&wanted, notes));
         assert!(lines.is_empty());
         let wrong = Entries {
             events: 100,
             paths: 5000,
         };
-        let (made, lines) = told(|notes| desk.row_from(&order, wrong, notes));
+        let (made, lines) = told(|notes| desk.row_from(&wanted, wrong, notes));
         assert_eq!(made.answer, right.answer);
         let expected = [
             "more than 100 events, trying 200",
@@ -205,12 +206,12 @@ mod tests {
     #[test]
     fn a_wrong_count_within_too_little_memory() {
         // 1 MiB takes 55,536 paths beside 4,000 events; there are more.
-        let (order, desk) = (table_1(15), desk(None, 1));
+        let (wanted, desk) = (table_1(Asked::Best, 15), desk(1));
         let wrong = Entries {
             events: 4000,
             paths: 40_000,
         };
-        let (made, lines) = told(|notes| desk.row_from(&order, wrong, notes));
+        let (made, lines) = told(|notes| desk.row_from(&wanted, wrong, notes));
         assert_eq!(made.answer, Err(Refusal::Paths));
         let expected = [
             "more than 40000 paths, trying 55536",
@@ -221,15 +222,22 @@ mod tests {
 
     #[test]
     fn what_is_needed_is_told_before_it_runs() {
-        let (made, lines) = told(|notes| desk(None, 1).row(&table_1(18), notes));
+        let (made, lines) = told(|notes| desk(1).row(&table_1(Asked::Best, 18), notes));
         assert_eq!(made.answer, Err(Refusal::Paths));
         let needed = "the tables need 15852 events and 1940785 paths, 31 MiB";
         assert_eq!(lines, [format!("{needed}: more than --memory 1")]);
     }
 
     #[test]
+    fn a_quote_needs_the_paths_of_its_length() {
+        let (made, lines) = told(|notes| desk(1).row(&table_1(Asked::Quote(12), 18), notes));
+        assert_eq!(made.answer.map(|row| row.order().bits()), Ok(12));
+        assert!(lines.is_empty(), "{lines:?}");
+    }
+
+    #[test]
     fn a_wrong_polynomial_comes_before_the_tables() {
-        let (made, lines) = told(|notes| desk(Some(0x42), 1).row(&table_1(18), notes));
+        let (made, lines) = told(|notes| desk(1).row(&table_1(Asked::Of(0x42), 18), notes));
         assert_eq!(made.answer, Err(Refusal::Polynomial));
         assert!(lines.is_empty());
     }

@@ -1,6 +1,7 @@
 //! A price list: the rows of several orders.
 
 use crate::args::Args;
+use crate::asked::Asked;
 use crate::numbers::Numbers;
 use crate::{jobs, put_row, text_of, Stop};
 use dohvrin::Link;
@@ -14,13 +15,20 @@ pub fn write(file: &str, args: &Args) -> Result<(), Stop> {
         return Err(wrong("no order in it".to_string()));
     }
     let desk = args.desk();
-    let lines = move |numbers: &Numbers, notes: jobs::Notes| {
-        let row = desk.lines(numbers, notes);
+    let lines = move |(numbers, asked): &(Numbers, Asked), notes: jobs::Notes| {
+        let row = desk.lines(numbers, *asked, notes);
         (numbers.link(), row)
     };
-    jobs::run(orders, args.jobs, lines, |(link, row)| {
+    let rows = rows(&orders, &args.asked);
+    jobs::run(rows, args.jobs, lines, |(link, row)| {
         Ok(put_row(&row, link, args.json)?)
     })
+}
+
+/// All that is asked for of each order in turn.
+fn rows(orders: &[Numbers], asked: &[Asked]) -> Vec<(Numbers, Asked)> {
+    let of_one = |order: &Numbers| asked.iter().map(|&one| (order.clone(), one)).collect();
+    orders.iter().flat_map::<Vec<_>, _>(of_one).collect()
 }
 
 /// The order of each line, of this kind of link where the line does not say it;

@@ -2,6 +2,7 @@
 //! digit of a row comes from the library's text; `--help` has the rest.
 
 mod args;
+mod asked;
 mod check;
 mod checklist;
 mod desk;
@@ -13,9 +14,11 @@ mod numbers;
 mod progress;
 
 use args::{Args, Source, Task};
+use asked::Wanted;
 use desk::Made;
 use dohvrin::{Link, Order, Refusal};
 use jobs::Note;
+use numbers::Numbers;
 use std::fs::File;
 use std::io::{self, ErrorKind, Read, Write};
 use std::process::ExitCode;
@@ -51,7 +54,7 @@ fn main() -> ExitCode {
     let stop = match args::read(arguments) {
         Err(message) => Err(Stop::Arguments(message)),
         Ok(args) => match answer(&args) {
-            Err(Stop::Refused(refusal)) => refused(refusal, args.link, args.json),
+            Err(Stop::Refused(refusal)) => refused("", refusal, args.link, args.json),
             other => other,
         },
     };
@@ -75,11 +78,11 @@ fn main() -> ExitCode {
 fn answer(args: &Args) -> Result<(), Stop> {
     match &args.task {
         Task::Help => put(args::HELP.as_bytes())?,
-        Task::Row(source) => {
-            let row = made(order(source)?, args)?.answer?;
-            put_row(&row.text(), row.order().link(), args.json)?;
-        }
-        Task::Checklist(source) => sign(order(source)?, args)?,
+        Task::Row(source) => each(source, args, |wanted, _| {
+            let row = made(wanted, args)?.answer?;
+            Ok(put_row(&row.text(), row.order().link(), args.json)?)
+        })?,
+        Task::Checklist(source) => each(source, args, |wanted, head| sign(wanted, head, args))?,
         Task::Record(source) => put(&order(source)?.record())?,
         Task::RecordHex(source) => {
             let bytes = order(source)?.record();
@@ -92,30 +95,59 @@ fn answer(args: &Args) -> Result<(), Stop> {
     Ok(())
 }
 
-fn order(source: &Source) -> Result<Order, Stop> {
+/// Answers all that is asked for of an order; where one thing is refused, the
+/// others are still answered. Of several, a refused one has its ORDER line as its
+/// head: NO alone would not say which it is.
+fn each(
+    source: &Source,
+    args: &Args,
+    answer: impl Fn(Wanted, &str) -> Result<(), Stop>,
+) -> Result<(), Stop> {
+    let numbers = given(source)?;
+    for asked in &args.asked {
+        let head = match args.asked.len() {
+            1 => String::new(),
+            _ => format!("{}\n", asked.printed(&numbers)),
+        };
+        let wanted = asked.of(numbers.any()).map_err(Stop::from);
+        match wanted.and_then(|wanted| answer(wanted, &head)) {
+            Err(Stop::Refused(refusal)) => refused(&head, refusal, numbers.link(), args.json)?,
+            other => other?,
+        }
+    }
+    Ok(())
+}
+
+/// An order as it is typed; a record has passed its questions.
+fn given(source: &Source) -> Result<Numbers, Stop> {
     Ok(match source {
-        Source::Numbers(numbers) => numbers.order()?,
+        Source::Numbers(numbers) => numbers.clone(),
         Source::Input => {
             // As far as it can matter: past these bytes no length is right.
             let mut bytes = Vec::new();
             io::stdin().take(65_538).read_to_end(&mut bytes)?;
-            Order::from_record(&bytes)?
+            Numbers::of(&Order::from_record(&bytes)?)
         }
     })
 }
 
-/// The row of an order.
-fn made(order: Order, args: &Args) -> Result<Made, Stop> {
-    let desk = args.desk();
-    jobs::alone(move |notes| desk.row(&order, notes))
+fn order(source: &Source) -> Result<Order, Stop> {
+    Ok(Order::of(given(source)?.any())?)
 }
 
-/// The row of an order, or its tie, and the checklist.
-fn sign(order: Order, args: &Args) -> Result<(), Stop> {
-    let Made { answer, tables, .. } = made(order.clone(), args)?;
+/// The row that is wanted.
+fn made(wanted: Wanted, args: &Args) -> Result<Made, Stop> {
+    let desk = args.desk();
+    jobs::alone(move |notes| desk.row(&wanted, notes))
+}
+
+/// The row, or its tie under this head, and the checklist.
+fn sign(wanted: Wanted, head: &str, args: &Args) -> Result<(), Stop> {
+    let order = wanted.order().clone();
+    let Made { answer, tables, .. } = made(wanted, args)?;
     match &answer {
         Ok(row) => put_row(&row.text(), order.link(), false)?,
-        Err(tie @ Refusal::Tie { .. }) => refused(*tie, order.link(), false)?,
+        Err(tie @ Refusal::Tie { .. }) => refused(head, *tie, order.link(), false)?,
         Err(refusal) => return Err(Stop::Refused(*refusal)),
     }
     let (points, right) = jobs::alone(move |notes| {
@@ -143,9 +175,9 @@ fn text_of(file: &str) -> io::Result<String> {
     Ok(String::from_utf8_lossy(&bytes).into_owned())
 }
 
-/// The line of a refusal, and on standard error what it means.
-fn refused(refusal: Refusal, link: Link, json: bool) -> Result<(), Stop> {
-    put_row(&refusal.text(), link, json)?;
+/// The line of a refusal under this head, and on standard error what it means.
+fn refused(head: &str, refusal: Refusal, link: Link, json: bool) -> Result<(), Stop> {
+    put_row(&format!("{head}{}", refusal.text()), link, json)?;
     tell(&refusal.to_string());
     Ok(())
 }

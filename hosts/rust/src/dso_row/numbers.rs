@@ -1,6 +1,6 @@
 //! An order as it is typed or printed, whatever its numbers are.
 
-use dohvrin::{AnyOrder, Link, Order, Refusal};
+use dohvrin::{AnyOrder, Link, Order};
 use std::fmt;
 
 /// The names of the numbers before the generators.
@@ -59,15 +59,35 @@ impl Numbers {
         Numbers::read(&line.split_whitespace().collect::<Vec<_>>(), link)
     }
 
-    /// The order, where questions 3 to 9 and 16 accept it.
-    pub fn order(&self) -> Result<Order, Refusal> {
+    /// Those of an order.
+    pub fn of(order: &Order) -> Numbers {
+        Numbers {
+            link: order.link(),
+            v: order.v(),
+            bits: order.bits(),
+            m: order.m(),
+            d: order.d(),
+            generators: order.generators().to_vec(),
+        }
+    }
+
+    /// The order as the calls take it.
+    pub fn any(&self) -> AnyOrder {
         let any = AnyOrder::new(&self.generators, self.v, self.bits, self.m, self.d);
-        Order::of(any.with_link(self.link))
+        any.with_link(self.link)
     }
 
     /// The kind of its link.
     pub fn link(&self) -> Link {
         self.link
+    }
+
+    /// The same numbers with this N.
+    pub fn with_bits(&self, bits: u64) -> Numbers {
+        Numbers {
+            bits,
+            ..self.clone()
+        }
     }
 
     /// The same numbers for the other kind of link.

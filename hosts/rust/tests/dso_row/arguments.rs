@@ -8,6 +8,7 @@ fn help() {
     assert_eq!((help.status, help.err.as_str()), (0, ""));
     for option in [
         "--of",
+        "--quote",
         "--json",
         "--terminated",
         "--checklist",
@@ -102,6 +103,33 @@ fn the_message_names_the_argument() {
             "--of 0x7 --checklist -",
             "--of: not together with --checklist",
         ),
+        ("--quote", "--quote: its value is missing (see --help)"),
+        (
+            "--quote 70,x -",
+            "--quote 70,x: not lengths such as 70 or 70,64",
+        ),
+        (
+            "--quote 70, -",
+            "--quote 70,: not lengths such as 70 or 70,64",
+        ),
+        (
+            "--quote -1 -",
+            "--quote -1: not lengths such as 70 or 70,64",
+        ),
+        (
+            "--quote 18446744073709551616 -",
+            "--quote 18446744073709551616: not lengths such as 70 or 70,64",
+        ),
+        ("--quote 70 --check -", "--quote: not together with --check"),
+        (
+            "--quote 70 --record -",
+            "--quote: not together with --record",
+        ),
+        (
+            "--record-hex --quote 70 -",
+            "--quote: not together with --record-hex",
+        ),
+        ("--of 0x7 --quote 70 -", "--quote: not together with --of"),
         ("--file orders 2 1 4 2 6 1 3", "2: an order beside the file"),
         (
             "--terminated -",

@@ -3,16 +3,25 @@
 use crate::rows::EXAMPLE;
 use crate::run::run;
 
-#[test]
-fn a_row_and_its_points() {
-    let run = run("--checklist 2 1 4 2 6 1 3");
-    let points = "
+/// Point 1 of code S, where 0x5 is best.
+const CODE_S: &str = "
 1. The polynomials written out
    generator 1 is 1
    generator 3 is x+1, irreducible
    no factor is shared by all generators
    check 0x5 is x^2+1
+";
 
+/// A row of code S is followed by point 1 and these.
+pub fn signed(arguments: &str, row: &str, points: &str) {
+    let run = run(&format!("--checklist {arguments}"));
+    let expected = format!("{row}{CODE_S}{points}");
+    assert_eq!((run.status, run.out), (0, expected));
+}
+
+#[test]
+fn a_row_and_its_points() {
+    let points = "
 2. Every rotation of a path is in the list
    weight 3: 4 paths, the rotations of 1: 0x1 (4 of 4)
    weight 4: 5 paths, the rotations of 2: 0x3 (4 of 4), 0xF (1 of 1)
@@ -29,7 +38,7 @@ fn a_row_and_its_points() {
    best by the listed paths: 0x5, undetected 1 at 4
    0x7 loses at weight 5, 2 to 0: undetected 1 at 4, 2 at 5
 ";
-    assert_eq!((run.status, run.out), (0, format!("{EXAMPLE}{points}")));
+    signed("2 1 4 2 6 1 3", EXAMPLE, points);
 }
 
 #[test]

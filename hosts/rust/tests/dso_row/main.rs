@@ -3,6 +3,7 @@
 mod arguments;
 mod checklist;
 mod files;
+mod quote;
 mod rows;
 mod run;
 mod terminated;

@@ -18,7 +18,7 @@ A 5 4 0
 CRC 0x5
 ";
 
-const RECORD: [u8; 12] = [0, 10, 1, 2, 1, 4, 2, 6, 0, 1, 0, 3];
+pub const RECORD: [u8; 12] = [0, 10, 1, 2, 1, 4, 2, 6, 0, 1, 0, 3];
 
 #[test]
 fn the_example_of_document_01() {

@@ -1,5 +1,6 @@
 //! Terminated links: rows, records, JSON, lists, checks and the checklist.
 
+use crate::checklist::signed;
 use crate::rows::{second_tool, ORDERS};
 use crate::run::{bytes_on, run, run_on};
 
@@ -128,14 +129,7 @@ fn rows_may_have_their_kind_written_before_them() {
 
 #[test]
 fn the_checklist_of_code_s() {
-    let run = run("--checklist --terminated 2 1 3 2 6 1 3");
     let points = "
-1. The polynomials written out
-   generator 1 is 1
-   generator 3 is x+1, irreducible
-   no factor is shared by all generators
-   check 0x5 is x^2+1
-
 2. Every shift of a path is in the list
    weight 3: 3 paths, the shifts of 1: 0x1 (3 of 3)
    weight 4: 2 paths, the shifts of 1: 0x3 (2 of 2)
@@ -152,13 +146,13 @@ fn the_checklist_of_code_s() {
    best by the listed paths: 0x5, nothing undetected
    0x7 loses at weight 5, 1 to 0: undetected 1 at 5
 ";
-    assert_eq!((run.status, run.out), (0, format!("{ROW}{points}")));
+    signed("--terminated 2 1 3 2 6 1 3", ROW, points);
     for longest in [
         "2 8 128 1 13 561 753",
         "2 8 8 3 30 561 753",
         "3 2 40 5 18 5 7 7",
     ] {
-        let list = crate::run::run(&format!("--checklist --terminated {longest}"));
+        let list = run(&format!("--checklist --terminated {longest}"));
         assert_eq!(list.status, 0, "{longest}: {}", list.out);
     }
 }

@@ -103,8 +103,7 @@ module _ {table : List Event} {work paths : List ℕ} {at : ℕ} {begun : Chain}
             ∙ skipped from (beginning work at room begun) at paths refl (ask .near) (b .0) (b .1)
             (λ open-room x g g′. let last = b .1 in
             finds-none joins begun (ask .unfinished) x g (omega arith)
-            (beginning-skips table work from to (joins .ready) at room begun short (bitsAt work)
-            (joins .segment) few open-room x g g′)));
+            (beginning-skips table work from to (joins .ready) at room begun short (joins .segment) open-room x g g′)));
       }
 
   module _ (x : Stage) where
@@ -131,7 +130,7 @@ module _ {table : List Event} {work paths : List ℕ} {at : ℕ} {begun : Chain}
       }
 
       len-short : e .length ≤ mostSteps
-      len-short = let a = joins .segment .lengths (x .k) (x .stands .above) inside .1 in let b = few in omega arith
+      len-short = joins .segment .lengths (x .k) (x .stands .above) inside .1
 
       pub asks-follow : {f : Event} → f ≡ e → to < 2 ^ 64 → ToFollow work begun (f .length) (x .k)
       asks-follow is h = record {
@@ -177,8 +176,7 @@ module _ {table : List Event} {work paths : List ℕ} {at : ℕ} {begun : Chain}
                   sym (skipped (x .k + 1) k′ r zs turn-size turn-near (omega (arith, b .0)) (b .1)
                   (λ open-room y g g′. let last = b .1 in
                   finds-none joins begun (ask .unfinished) y (omega arith) (omega arith)
-                  (following-skips table work from to (joins .ready) r room begun short
-                  (bitsAt work) (joins .segment) few open-room
+                  (following-skips table work from to (joins .ready) r room begun short (joins .segment) open-room
                   (x .k) (e .length) y above inside refl (omega arith) (rw is at g′))))
                   ∙ sym turned ∙ x .stands .done;
             }

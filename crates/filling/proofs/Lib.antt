@@ -1,0 +1,5 @@
+pub mod Settled
+pub mod Weights
+pub mod Filled
+pub mod Standing
+pub mod Stages

@@ -1,0 +1,42 @@
+-- What quoting promises: where N′ is at most N and question 13 passes for N, the row or the refusal is the one that a fresh run for N′ gives; and demand 3,
+-- of N′. `quote-promise` (proofs/Fresh.antt) proves it of the definition of the call, and `quote-promises` of what the function itself answers and leaves.
+-- Assumes nothing.
+use Prim.Native.Nat.{ℕ, _≤_}
+use mathlib.Core.Path.{_≡_}
+use mathlib.Core.Logic.{_↔_}
+use mathlib.Core.List.{List}
+use lib.ListN.{length}
+use Rattle.order.specs.Order.{Order, withLength}
+use Rattle.order.specs.Answer.{Answer, accepted, refusedWith}
+use Rattle.events.specs.Events.{events}
+use Rattle.choice.specs.Best.{SharedBest}
+use Rattle.search.specs.Calls.{Found, SearchTables, filledSearch, searchCall}
+use Rattle.search.specs.Promise.{NoneRefuses, NamesBest}
+
+-- N′ is at most N, and of the questions that are about N, neither 5 nor 13 refuses
+pub record MayQuote (o : Order) (N′ : ℕ) (lent : SearchTables) : Type 0 where
+  pub tail-biting : o .version ≡ 1
+  pub no-longer : N′ ≤ o .N
+  pub at-most-128 : o .N ≤ 128
+  pub events-fit : length (events o) ≤ length (lent .events)
+
+-- the same answer, with the same path table, counts and work area; the event tables are those of N and of N′
+pub record SameRow (quoted fresh : Answer Found × SearchTables) : Type 0 where
+  pub answer : quoted .0 ≡ fresh .0
+  pub paths : quoted .1 .paths ≡ fresh .1 .paths
+  pub plain : quoted .1 .plain ≡ fresh .1 .plain
+  pub undetected : quoted .1 .undetected ≡ fresh .1 .undetected
+  pub work : quoted .1 .work ≡ fresh .1 .work
+
+-- several share the best counts for N′: the event table is left as for N, the rest as for N′
+pub record SharesQuoted (o : Order) (N′ : ℕ) (lent left : SearchTables) (how-many : ℕ) : Type 0 where
+  pub counts : List ℕ
+  pub shared : SharedBest (withLength N′ o) how-many counts
+  pub tables : left ≡ filledSearch o (withLength N′ o) counts lent
+
+pub record QuotePromise (o : Order) (N′ : ℕ) (lent : SearchTables) (answer : Answer Found) (left : SearchTables) : Type 0 where
+  pub is-fresh : MayQuote o N′ lent → SameRow (answer, left) (searchCall (withLength N′ o) lent)
+  pub names-best : (f : Found) → answer ≡ accepted f → NamesBest (withLength N′ o) lent left (f .polynomial)
+  pub refuses-15-exactly : (k : ℕ) → (answer ≡ refusedWith 15 k)
+      ↔ (MayQuote o N′ lent × (NoneRefuses (withLength N′ o) lent × ((counts : List ℕ) × SharedBest (withLength N′ o) k counts)))
+  pub leaves-shared : (k : ℕ) → answer ≡ refusedWith 15 k → SharesQuoted o N′ lent left k
