@@ -53,8 +53,9 @@ fn main() -> ExitCode {
             small::slowest(50);
         }
         ["--quotes"] => shorter(101),
+        ["--words"] => calls(301),
         _ => {
-            eprintln!("usage: bench/run [--quick | --quotes]");
+            eprintln!("usage: bench/run [--quick | --quotes | --words]");
             return ExitCode::from(2);
         }
     }
@@ -121,7 +122,11 @@ fn collections(few: usize, many: usize) {
 }
 
 fn calls(turns: usize) {
-    head("Calls on one word, 13, 17", "calls a turn", RACE);
+    head(
+        "Calls on one word, 13, 17 where no other code is named",
+        "calls a turn",
+        RACE,
+    );
     for (name, times) in words::all(turns) {
         row(name, words::CALLS, &times);
     }

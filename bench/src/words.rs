@@ -3,22 +3,47 @@
 use crate::plain;
 use crate::turns::{time, Turns};
 use dohvrin::{AnyOrder, Link};
-use dso_ref::link::{self, Code};
+use dso_ref::link;
 use std::fmt::Debug;
 use std::hint::black_box;
 
 pub const CALLS: usize = 8192;
 const WORDS: usize = 256;
 
-const GENERATORS: [u64; 2] = [0o13, 0o17];
-const MEMORY: u64 = 3;
 const POLYNOMIAL: u64 = 0x180F;
 const DEGREE: u64 = 12;
 /// The bytes of the longest codeword, of 128 bits on a tail-biting link.
 const OUTPUT: usize = 256;
 
+/// A code of two generators.
+#[derive(Clone, Copy)]
+struct Code {
+    generators: &'static [u64; 2],
+    memory: u64,
+    link: Link,
+}
+
+/// The code where no other is named.
+const USUAL: Code = Code {
+    generators: &[0o13, 0o17],
+    memory: 3,
+    link: Link::TailBiting,
+};
+
+const TERMINATED: Code = Code {
+    link: Link::Terminated,
+    ..USUAL
+};
+
+/// With the longest memory.
+const LONGEST: Code = Code {
+    generators: &[0o561, 0o753],
+    memory: 8,
+    link: Link::TailBiting,
+};
+
 /// Each kind of call with its times.
-pub fn all(turns: usize) -> [(&'static str, Turns); 9] {
+pub fn all(turns: usize) -> [(&'static str, Turns); 11] {
     let m = DEGREE as usize;
     let test = |word| dohvrin::test(128, DEGREE, black_box(POLYNOMIAL), word).ok();
     let same = |word| plain::words::test(128, m, black_box(POLYNOMIAL), word).ok();
@@ -31,17 +56,13 @@ pub fn all(turns: usize) -> [(&'static str, Turns); 9] {
         ),
         ("strip, 128 bits, degree 12", strip(turns)),
         ("append, 128 bits, degree 12", append(turns)),
-        ("weigh, 70 bits", weigh(turns, Link::TailBiting, 70)),
-        ("weigh, 128 bits", weigh(turns, Link::TailBiting, 128)),
-        ("encode, 128 bits", encode(turns, Link::TailBiting, 128)),
-        (
-            "weigh, 70 bits, terminated",
-            weigh(turns, Link::Terminated, 70),
-        ),
-        (
-            "encode, 70 bits, terminated",
-            encode(turns, Link::Terminated, 70),
-        ),
+        ("weigh, 70 bits", weigh(turns, USUAL, 70)),
+        ("weigh, 128 bits", weigh(turns, USUAL, 128)),
+        ("weigh, 128 bits, 561, 753", weigh(turns, LONGEST, 128)),
+        ("encode, 70 bits", encode(turns, USUAL, 70)),
+        ("encode, 128 bits", encode(turns, USUAL, 128)),
+        ("weigh, 70 bits, terminated", weigh(turns, TERMINATED, 70)),
+        ("encode, 70 bits, terminated", encode(turns, TERMINATED, 70)),
     ]
 }
 
@@ -72,43 +93,43 @@ fn append(turns: usize) -> Turns {
     )
 }
 
-fn weigh(turns: usize, link: Link, bits: u64) -> Turns {
+fn weigh(turns: usize, code: Code, bits: u64) -> Turns {
     race(
         turns,
         bits,
-        |word| dohvrin::weigh(given(link, bits), word).ok(),
+        |word| dohvrin::weigh(given(code, bits), word).ok(),
         |word| {
-            let weight = plain::words::weigh(code(link, bits), word);
+            let weight = plain::words::weigh(same(code, bits), word);
             weight.ok().map(u64::from)
         },
     )
 }
 
 /// Into an output of just the codeword's size.
-fn encode(turns: usize, link: Link, bits: u64) -> Turns {
-    let size = 2 * link.steps(MEMORY, bits) as usize;
+fn encode(turns: usize, code: Code, bits: u64) -> Turns {
+    let size = 2 * code.link.steps(code.memory, bits) as usize;
     let (mut ours, mut theirs) = ([0; OUTPUT], [0; OUTPUT]);
     race(
         turns,
         bits,
         |word| {
-            let answer = dohvrin::encode(given(link, bits), word, &mut ours[..size]);
+            let answer = dohvrin::encode(given(code, bits), word, &mut ours[..size]);
             answer.is_ok().then_some(black_box(ours))
         },
         |word| {
-            let answer = plain::words::encode(code(link, bits), word, &mut theirs[..size]);
+            let answer = plain::words::encode(same(code, bits), word, &mut theirs[..size]);
             answer.is_ok().then_some(black_box(theirs))
         },
     )
 }
 
 /// The code as the library takes it, and as the second tool does.
-fn given(link: Link, bits: u64) -> AnyOrder {
-    let [g1, g2] = *black_box(&GENERATORS);
+fn given(code: Code, bits: u64) -> AnyOrder {
+    let [g1, g2] = *black_box(code.generators);
     AnyOrder {
-        version: link.version(),
+        version: code.link.version(),
         n: 2,
-        v: MEMORY,
+        v: code.memory,
         bits,
         m: DEGREE,
         d: 1,
@@ -116,12 +137,12 @@ fn given(link: Link, bits: u64) -> AnyOrder {
     }
 }
 
-fn code(link: Link, bits: u64) -> Code<'static> {
-    Code {
-        version: link.version(),
-        memory: MEMORY as usize,
+fn same(code: Code, bits: u64) -> link::Code<'static> {
+    link::Code {
+        version: code.link.version(),
+        memory: code.memory as usize,
         length: bits as usize,
-        generators: black_box(&GENERATORS),
+        generators: black_box(code.generators),
     }
 }
 

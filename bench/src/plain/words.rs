@@ -4,65 +4,75 @@ use dohvrin::Stripped;
 use dso_ref::link::{Code, Kind};
 use dso_ref::questions::{self, Refusal};
 
-/// The weight of a word: the ones in all cyclic products, or on a terminated
-/// link those of each step.
+/// The window that is kept: the state before a step, of at most eight bits, and
+/// the bits of the word that are still to come.
+#[derive(Clone, Copy)]
+struct Window {
+    state: u8,
+    rest: u128,
+}
+
+impl Window {
+    /// Before the first step: state 0 or, where the link bites its tail, what the
+    /// last v bits leave.
+    fn first(code: Code, kind: Kind, word: u128) -> Window {
+        let Code {
+            memory: v,
+            length: n,
+            ..
+        } = code;
+        let last = Window {
+            state: 0,
+            rest: word >> (n - v),
+        };
+        let state = match kind {
+            Kind::TailBiting => (0..v).fold(last, |window, _| window.moved(v)).state,
+            Kind::Terminated => 0,
+        };
+        Window { state, rest: word }
+    }
+
+    /// The inputs that the generators tap.
+    fn inputs(self) -> u64 {
+        2 * u64::from(self.state) + (self.rest & 1) as u64
+    }
+
+    /// One step later, where the state has v bits.
+    fn moved(self, v: usize) -> Window {
+        Window {
+            state: (self.inputs() % (1 << v)) as u8,
+            rest: self.rest >> 1,
+        }
+    }
+}
+
+/// The weight of a word: the ones of each step.
 pub fn weigh(code: Code, word: u128) -> Result<u32, Refusal> {
     let kind = ask(code)?;
     questions::below_power(word, code.length)?;
-    let weight = |&g| cyclic_product(word, g, code).count_ones();
-    Ok(match kind {
-        Kind::TailBiting => code.generators.iter().map(weight).sum(),
-        Kind::Terminated => weigh_steps(code, word),
-    })
-}
-
-/// The state is kept, and one bit moved in at each step.
-fn weigh_steps(code: Code, word: u128) -> u32 {
-    let (mut state, mut rest, mut weight) = (0, word, 0);
+    let mut window = Window::first(code, kind, word);
+    let mut weight = 0;
     for _ in 0..code.steps() {
-        let window = 2 * state + (rest & 1) as u64;
-        let ones = |g: &u64| (g & window).count_ones() % 2;
+        let ones = |g: &u64| (g & window.inputs()).count_ones() % 2;
         weight += code.generators.iter().map(ones).sum::<u32>();
-        (state, rest) = (window % (1 << code.memory), rest >> 1);
+        window = window.moved(code.memory);
     }
-    weight
-}
-
-/// u times g modulo x^N + 1, the highest coefficient first.
-fn cyclic_product(u: u128, g: u64, code: Code) -> u128 {
-    let (n, ones) = (code.length, u128::MAX >> (128 - code.length));
-    (0..=code.memory).rev().fold(0, |r, j| {
-        let turned = (r << 1 | r >> (n - 1)) & ones;
-        match g >> j & 1 {
-            0 => turned,
-            _ => turned ^ u,
-        }
-    })
+    Ok(weight)
 }
 
 /// The codeword into the output, a step at a time, and zeros after it.
 pub fn encode(code: Code, word: u128, output: &mut [u8]) -> Result<(), Refusal> {
-    let Code {
-        memory: v,
-        length: n,
-        generators,
-        ..
-    } = code;
+    let generators = code.generators;
     let kind = ask(code)?;
     questions::codeword_room(output.len(), generators.len(), code.steps())?;
-    questions::below_power(word, n)?;
+    questions::below_power(word, code.length)?;
     output.fill(0);
-    let mut state = match kind {
-        Kind::TailBiting => (n - v..n).fold(0, |s, t| 2 * s + (word >> t & 1) as u64),
-        Kind::Terminated => 0,
-    };
-    let mut rest = word;
+    let mut window = Window::first(code, kind, word);
     for (_, step) in (0..code.steps()).zip(output.chunks_exact_mut(generators.len())) {
-        let window = 2 * state + (rest & 1) as u64;
         for (out, g) in step.iter_mut().zip(generators) {
-            *out = (g & window).count_ones() as u8 % 2;
+            *out = (g & window.inputs()).count_ones() as u8 % 2;
         }
-        (state, rest) = (window % (1 << v), rest >> 1);
+        window = window.moved(code.memory);
     }
     Ok(())
 }

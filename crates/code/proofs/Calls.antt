@@ -1,84 +1,36 @@
 -- What follows from the questions of the encoder and the weight: the refusals in their order, and what an accepted call may use.
 -- Assumes nothing.
-use mathlib.Core.Path.{_≡_, sym, ap, _∙_, subst}
+use mathlib.Core.Path.{_≡_, sym, _∙_, subst}
 use mathlib.Core.Bool.{true, false}
 use mathlib.Core.List.{List, [], _∷_}
 use Prim.Native.Nat.{ℕ, _*_, _^_, _≤_, _<_}
 use native.Mathlib.Nat.{suc-ne-zero, mul-le-mul}
 use native.Mathlib.Numerals.{add-one}
-use native.Mathlib.Omega.{arith}
 use borrow.Author.Tests.{lt-leb, le-leb}
 use lib.Dec.{T, ltb}
-use lib.ListN.{length, take}
-use Rattle.lists.specs.Lists.{all, padded}
+use lib.ListN.{length}
+use Rattle.lists.specs.Lists.{padded}
 use Rattle.lists.proofs.Tests.{true-of-T}
 use Rattle.lists.proofs.Member.{of-all}
 use Rattle.order.specs.Questions.{firstNo, inRange, room, below}
 use Rattle.order.specs.Order.{Order, orderQuestions}
 use Rattle.order.specs.Answer.{Answer, accepted, refused}
-use Rattle.order.specs.Answers.{orderIn}
 use Rattle.order.specs.Model.Accepted.{AcceptedCode, AcceptedAs}
 use Rattle.order.specs.declared.questions.Takes.the-variants as T
-use Rattle.order.specs.declared.record.OrderRecord.{OrderRecord}
 use Rattle.order.proofs.Answers.{below-of-range}
-use Rattle.order.proofs.Asked.{numbered-order, accepted-order, four-are}
+use Rattle.order.proofs.Asked.{numbered-order, accepted-order}
 use Rattle.order.proofs.FirstNo.{firstNo-none, firstNo-yes, firstNo-no, refused-first, refused-later, is-refused, is-answered, leaves-refused, leaves-answered}
-use Rattle.code.specs.Links.{terminated, stepsOf}
+use Rattle.code.specs.Links.{stepsOf}
 use Rattle.code.specs.Weight.{weight, codeword}
 use Rattle.code.specs.Calls.{weighQuestions, weighCall, encodeQuestions, encodeCall}
-use Rattle.code.specs.Model.Cyclic.{cyclicWeight, cyclicCodeword}
-use Rattle.code.specs.Model.Steps.{mostSteps, ShortWord, FewGenerators, ToWeigh, ToStep, CodeWord}
+use Rattle.code.specs.Model.Steps.{mostSteps}
 use Rattle.code.proofs.Steps.{Fit}
-use Rattle.code.proofs.Links.{few-steps, memory-fits, some-steps, wide-word, steps-tail-biting, weight-is-cyclic, codeword-is-cyclic}
 
 -- generators in range have at most v + 1 coefficients
-pub fit-of-range : (v : ℕ) (gs : List ℕ) → all (inRange v) gs ≡ true → Fit v gs
-fit-of-range v gs e g m =
-    subst (λ (k : ℕ). g < 2 ^ k) (add-one v) (below-of-range v g (true-of-T (inRange v g) (of-all (inRange v) gs (subst T (sym e) tt) g m)))
-
 pub fit-of-code : (o : Order) → AcceptedCode o → Fit (o .v) (o .generators)
-fit-of-code o acc = fit-of-range (o .v) (o .generators) (acc .in-range)
-
--- ---- a word of an accepted code
-
-pub short-word : {o : Order} {u : ℕ} → CodeWord o u → ShortWord (o .N) u
-short-word w = record { some-bits = omega arith; at-most-128 = w .code .at-most-128; fits = w .fits }
-
-generators-of : (o : Order) → AcceptedCode o → FewGenerators (o .v) (o .generators)
-generators-of o acc = record { few = acc .few-generators; in-range = acc .in-range }
-
--- by whole products, and a step at a time
-to-weigh : (o : Order) (u : ℕ) → CodeWord o u → ToWeigh (o .generators) (o .v) (o .N) u
-to-weigh o u w = record { word = short-word w; small-memory = omega (arith, w .code .small-memory); generators = generators-of o (w .code) }
-
-to-step : (o : Order) (u : ℕ) → CodeWord o u → ToStep (o .generators) (o .v) (stepsOf o) u
-to-step o u w = record {
-  states = record { small-memory = w .code .small-memory; long-enough = memory-fits o (w .code); few-steps = few-steps o (w .code) };
-  some-steps = some-steps o (w .code);
-  generators = generators-of o (w .code);
-  fits = wide-word o u (w .fits);
-}
-
--- with the first n of four generators
-module _ (r : OrderRecord) (u : ℕ) (w : CodeWord (orderIn r) u) where
-  pub four-weigh : ToWeigh (take (r .n) (r .g1 ∷ r .g2 ∷ r .g3 ∷ r .g4 ∷ [])) (r .v) (r .bits) u
-  unfolding orderIn
-  four-weigh = rw (four-are r (w .code)) (to-weigh (orderIn r) u w)
-
-  pub four-step : ToStep (take (r .n) (r .g1 ∷ r .g2 ∷ r .g3 ∷ r .g4 ∷ [])) (r .v) (stepsOf (orderIn r)) u
-  unfolding orderIn
-  four-step = rw (four-are r (w .code)) (to-step (orderIn r) u w)
-
--- what they give is the weight, and the codeword
-pub weighed-by-products : (o : Order) (u : ℕ) → CodeWord o u → terminated o ≡ false → cyclicWeight (o .N) (o .generators) u ≡ weight o u
-weighed-by-products o u w e =
-    ap (λ (k : ℕ). cyclicWeight k (o .generators) u) (sym (steps-tail-biting o e)) ∙ sym (weight-is-cyclic o u (w .fits) (fit-of-code o (w .code)))
-
-pub weighed-by-steps : (o : Order) (u : ℕ) → CodeWord o u → cyclicWeight (stepsOf o) (o .generators) u ≡ weight o u
-weighed-by-steps o u w = sym (weight-is-cyclic o u (w .fits) (fit-of-code o (w .code)))
-
-pub sent-by-steps : (o : Order) (u : ℕ) → CodeWord o u → cyclicCodeword (stepsOf o) (o .generators) u ≡ codeword o u
-sent-by-steps o u w = sym (codeword-is-cyclic o u (w .fits) (fit-of-code o (w .code)))
+fit-of-code o acc g m =
+    let v : ℕ = o .v in
+    subst (λ (k : ℕ). g < 2 ^ k) (add-one v) (below-of-range v g (true-of-T (inRange v g) (of-all (inRange v) (o .generators) (subst T (sym (acc .in-range)) tt) g m)))
 
 module _ (o : Order) (r : ℕ) (e : r ≡ firstNo (orderQuestions T.Code o)) where
   pub accepted-code : r ≡ 0 → AcceptedCode o

@@ -9,7 +9,7 @@ pub mod Ends
 pub mod Loops
 pub mod Marks
 pub mod Links
-pub mod Turn
+pub mod Windows
 pub mod Weights
 pub mod Sent
 pub mod Calls

@@ -142,6 +142,14 @@ unfolding fromBits
 no-bits zero = refl
 no-bits (suc k) = ap (λ (x : ℕ). 0 + 2 * x) (no-bits k)
 
+pub begins-at-zero : (v N u : ℕ) → u < 2 ^ N → stateAt v (N + v) u 0 ≡ 0
+unfolding stateAt place
+begins-at-zero v N u fits =
+    let T : ℕ = N + v in
+    fromBits-cong v (λ j. bit ((0 + T - suc j) % T) u) (λ j. 0)
+    (λ j h. let inside : 0 + T - suc j < T = omega arith in ap (λ (x : ℕ). bit x u) (mod-eq-of-lt inside) ∙ bit-above (0 + T - suc j) N u fits (omega arith))
+    ∙ no-bits v
+
 module _ (v N u : ℕ) (some : 0 < N) where
   abbrev T : ℕ
   T = N + v
@@ -149,21 +157,13 @@ module _ (v N u : ℕ) (some : 0 < N) where
   around : 0 + T ≡ T - 0
   around = omega arith
 
-  module _ (fits : u < 2 ^ N) where
-    begins-at-zero : stateAt v T u 0 ≡ 0
-    unfolding stateAt place
-    begins-at-zero =
-        fromBits-cong v (λ j. bit ((0 + T - suc j) % T) u) (λ j. 0)
-        (λ j h. let inside : 0 + T - suc j < T = omega arith in ap (λ (x : ℕ). bit x u) (mod-eq-of-lt inside) ∙ bit-above (0 + T - suc j) N u fits (omega arith))
-        ∙ no-bits v
-
-    pub unturned-mark : Marked v T u 0 0
-    unturned-mark = record {
-      inside = omega arith;
-      at = sym (ap (stateAt v T u) around) ∙ stateAt-period v T u 0 (omega arith) ∙ begins-at-zero;
-      least = λ t g h. omega arith;
-      after = λ t g h. absurd (omega arith);
-    }
+  pub unturned-mark : u < 2 ^ N → Marked v T u 0 0
+  unturned-mark fits = record {
+    inside = omega arith;
+    at = sym (ap (stateAt v T u) around) ∙ stateAt-period v T u 0 (omega arith) ∙ begins-at-zero v N u fits;
+    least = λ t g h. omega arith;
+    after = λ t g h. absurd (omega arith);
+  }
 
   -- the v bits above N are those of the first state
   pub unturned-fits : u < 2 ^ T → Marked v T u 0 0 → u < 2 ^ N

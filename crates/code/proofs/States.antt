@@ -1,6 +1,6 @@
 -- Laws of places and states: places repeat after N, the next state is the state with one bit shifted in, and after N steps the state is back.
 -- Assumes nothing.
-use mathlib.Core.Path.{_≡_, refl, sym, ap, ap₂, _∙_}
+use mathlib.Core.Path.{_≡_, sym, ap, ap₂, _∙_}
 use Prim.Native.Nat.{ℕ, suc, _+_, _-_, _*_, _%_, _^_, _≤_, _<_}
 use native.Mathlib.Nat.{add-comm, suc-add, suc-sub-suc, add-mod-right, mod-eq-of-lt, mod-lt}
 use native.Mathlib.Omega.{arith}
@@ -64,15 +64,6 @@ stateAt-push v N u t =
 pub stateAt-next : (v N u t : ℕ) → stateAt v N u (suc t) ≡ next v (stateAt v N u t) (place N u t)
 unfolding next stateAt window
 stateAt-next v N u t = sym (ap (λ (x : ℕ). x % 2 ^ v) (stateAt-push v N u t) ∙ fromBits-mod v (window N u t) (window-lt N u t))
-
--- one more bit of memory: the state and the word's next bit
-pub stateAt-more : (k N u t : ℕ) → t < N → 2 * stateAt k N u t + bit t u ≡ stateAt (suc k) N u (suc t)
-unfolding stateAt window
-stateAt-more k N u t h = ap (λ (x : ℕ). 2 * stateAt k N u t + x) (sym (place-bit N u t h)) ∙ stateAt-push k N u t
-
-pub stateAt-none : (N u t : ℕ) → stateAt 0 N u t ≡ 0
-unfolding stateAt fromBits
-stateAt-none N u t = refl
 
 -- the walk closes: after N steps the state is back
 pub stateAt-period : (v N u t : ℕ) → v ≤ N → stateAt v N u (t + N) ≡ stateAt v N u t

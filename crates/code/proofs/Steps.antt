@@ -26,7 +26,7 @@ use Rattle.code.proofs.Walks.{word-follows, walkWeight-follows}
 
 -- ---- x·r modulo x^N + 1: the coefficients move up by one, and the highest comes back as the lowest
 
-pub cycle-degree : (N : ℕ) → 0 < N → HasDegree N (2 ^ N + 1)
+cycle-degree : (N : ℕ) → 0 < N → HasDegree N (2 ^ N + 1)
 cycle-degree N h = ap (λ (x : ℕ). (x + 1) / 2 ^ N) (sym (one-mul (2 ^ N))) ∙ high 1 N (pow-lt h)
 
 -- bit t of a digit times x^N + 1, below N
@@ -50,10 +50,10 @@ digit-later : (t x : ℕ) → x < 2 → bit (suc t) x ≡ 0
 digit-later t x h = for-bits (λ (c : ℕ). bit (suc t) c ≡ 0) (bit-zero (suc t)) (bit-later t 1 ∙ bit-zero t) x h
 
 -- x·r modulo x^N + 1
-abbrev pub turned : ℕ → ℕ → ℕ
+abbrev turned : ℕ → ℕ → ℕ
 turned N r = register N (2 ^ N + 1) r 0
 
-pub turned-first : (n r : ℕ) → bit 0 (turned (suc n) r) ≡ bit n r
+turned-first : (n r : ℕ) → bit 0 (turned (suc n) r) ≡ bit n r
 unfolding register
 turned-first n r =
     let b : ℕ = bit (suc n) (2 * r + 0) in
@@ -61,7 +61,7 @@ turned-first n r =
     ∙ ap₂ differ (bit-double-first r)
     (bit-cycle 0 (suc n) b (zero-lt-suc n) (bit-lt (suc n) (2 * r + 0)) ∙ digit-first b (bit-lt (suc n) (2 * r + 0)) ∙ bit-double-later n r)
 
-pub turned-later : (t N r : ℕ) → suc t < N → bit (suc t) (turned N r) ≡ bit t r
+turned-later : (t N r : ℕ) → suc t < N → bit (suc t) (turned N r) ≡ bit t r
 unfolding register
 turned-later t N r h =
     let b : ℕ = bit N (2 * r + 0) in
@@ -101,11 +101,11 @@ place-of-zero : (N i : ℕ) → place N 0 i ≡ 0
 unfolding place
 place-of-zero N i = bit-zero (i % N)
 
-pub output-zero : (N u : ℕ) → cyclicOutput N 0 u ≡ 0
+output-zero : (N u : ℕ) → cyclicOutput N 0 u ≡ 0
 unfolding cyclicOutput
 output-zero N u = ap (remainder N (2 ^ N + 1)) (⊗-zero u) ∙ remainder-zero N (2 ^ N + 1)
 
-pub output-step : (N g u : ℕ) → u < 2 ^ N → cyclicOutput N g u ≡ turned N (cyclicOutput N (g / 2) u) ⊕ (g % 2 * u)
+output-step : (N g u : ℕ) → u < 2 ^ N → cyclicOutput N g u ≡ turned N (cyclicOutput N (g / 2) u) ⊕ (g % 2 * u)
 unfolding cyclicOutput
 output-step N g u h =
     ap (remainder N (2 ^ N + 1)) (⊗-step u g)
@@ -120,7 +120,7 @@ place-output n g u t h =
     ∙ place-⊕ (suc n) (turned (suc n) (cyclicOutput (suc n) (g / 2) u)) (g % 2 * u) (suc t)
     ∙ ap₂ differ (place-turned n (cyclicOutput (suc n) (g / 2) u) t) (place-digit-times (suc n) (g % 2) u (suc t) (mod2-lt g))
 
--- ---- the tapped the of inputs that a generator taps
+-- ---- the parity of the inputs that a generator taps
 
 digit-plus : (x y : ℕ) → x < 2 → (x + y) % 2 ≡ differ (y % 2) x
 digit-plus x y h =
@@ -192,7 +192,7 @@ output-bit v (suc n) g u t hv hu hg ht =
 
 -- ---- the weight
 
-pub output-lt : (N g u : ℕ) → 0 < N → cyclicOutput N g u < 2 ^ N
+output-lt : (N g u : ℕ) → 0 < N → cyclicOutput N g u < 2 ^ N
 unfolding cyclicOutput
 output-lt N g u h = remainder-lt N (2 ^ N + 1) (u ⊗ g) (cycle-degree N h)
 

@@ -13,7 +13,7 @@ use Rattle.lists.proofs.Sums.{sum-last}
 use Rattle.poly.specs.Poly.{bit}
 use Rattle.poly.proofs.Bits.{bit-first, bit-later}
 use Rattle.code.specs.Trellis.{place, stateAt, next, stepWeight, walk, walkWeight}
-use Rattle.code.proofs.States.{stateAt-lt, stateAt-next, stateAt-period, place-bit}
+use Rattle.code.proofs.States.{stateAt-lt, stateAt-next, stateAt-period, place-bit, next-lt}
 
 -- ---- the last step of a walk
 
@@ -30,6 +30,12 @@ walkWeight-last gs v (suc l) s c =
     (walkWeight-last gs v l (next v s (c % 2)) (c / 2)
     ∙ ap (λ (x : ℕ). walkWeight gs v l (next v s (c % 2)) (c / 2) + stepWeight gs (walk v l (next v s (c % 2)) (c / 2)) x) (sym (bit-later l c)))
     ∙ sym (add-assoc (stepWeight gs s (c % 2)) (walkWeight gs v l (next v s (c % 2)) (c / 2)) (stepWeight gs (walk v l (next v s (c % 2)) (c / 2)) (bit (suc l) c)))
+
+-- a walk stays among the states
+pub walk-lt : (v l s c : ℕ) → s < 2 ^ v → walk v l s c < 2 ^ v
+unfolding walk
+walk-lt v zero s c h = h
+walk-lt v (suc l) s c h = walk-lt v l (next v s (c % 2)) (c / 2) (next-lt v s (c % 2))
 
 -- ---- a walk whose inputs are a word's bits from place r on
 

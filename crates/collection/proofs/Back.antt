@@ -16,9 +16,7 @@ use Rattle.lists.proofs.Choices.{of-guarded, in-first, guarded-sorted}
 use Rattle.lists.proofs.Sorted.{Sorted, append-sorted, sorted-known}
 use Rattle.lists.proofs.Keys.{By, by-asymmetric}
 use Rattle.code.specs.Trellis.{next, stepWeight, walk, walkWeight, firstMeets}
-use Rattle.poly.specs.Poly.{bit}
-use Rattle.code.proofs.States.{next-lt}
-use Rattle.code.proofs.Walks.{walk-last}
+use Rattle.code.proofs.Walks.{walk-lt}
 use Rattle.code.proofs.Meets.{Meets, of-firstMeets, in-firstMeets}
 use Rattle.order.specs.Order.{Order}
 use Rattle.events.specs.Events.{ErrorEvent, isListed, eventsOfLength}
@@ -56,11 +54,6 @@ module _ (gs : List ℕ) (v i l : ℕ) (go : ℕ → ℕ → ℕ → Bool) where
   module _ (d : ℕ) (cuts : Cuts d) (pos : 1 ≤ v) (hi : i < 2 ^ v) where
     abbrev half : ℕ
     half = 2 ^ (v - 1)
-
-    walk-lt : (t c : ℕ) → walk v t i c < 2 ^ v
-    unfolding walk
-    walk-lt zero c = hi
-    walk-lt (suc t) c = subst (λ (x : ℕ). x < 2 ^ v) (sym (walk-last v t i c)) (next-lt v (walk v t i c) (bit t c))
 
     -- the state before, and the input, where b leads from p to s
     two-before : (p b s : ℕ) → p < 2 ^ v → b < 2 → s ≡ next v p b → ((p ≡ s / 2) × (b ≡ s % 2)) ⊎ ((p ≡ s / 2 + half) × (b ≡ s % 2))
@@ -186,7 +179,7 @@ module _ (gs : List ℕ) (v i l : ℕ) (go : ℕ → ℕ → ℕ → Bool) where
         in-first (go (suc t) s w) (back t (s / 2) (2 * c + s % 2) (w + stepWeight gs (s / 2) (s % 2)) ++ back t (s / 2 + half) (2 * c + s % 2) (w + stepWeight gs (s / 2 + half) (s % 2))) [] (goes (suc t) s w low ht way light)
         (⊎-elim (λ h. Memᴰ·append-left (back t (s / 2 + half) (2 * c + s % 2) (w + stepWeight gs (s / 2 + half) (s % 2))) (earlier (s / 2) (h .0) (h .1) low-fits))
         (λ h. Memᴰ·append-right (back t (s / 2) (2 * c + s % 2) (w + stepWeight gs (s / 2) (s % 2))) (earlier (s / 2 + half) (h .0) (h .1) (fit .1)))
-        (two-before p b s (walk-lt t r) (cut .bit-lt) (cut .last)))
+        (two-before p b s (walk-lt v t i r hi) (cut .bit-lt) (cut .last)))
       where
         moved : (x y z u : ℕ) → u ≡ z + y → x + y + z ≡ x + u
         moved x y z u e = omega arith

@@ -1,15 +1,16 @@
--- Laws of shifts and cuts of a number in two halves of 64 bits, h * 2^64 + l, in the shapes in which `src/word.rt` computes them.
+-- Laws of a number in two halves of 64 bits, h * 2^64 + l: its shifts, and when it is below 2^k, in the shapes in which `src/word.rt` computes them.
 -- Assumes nothing.
 use mathlib.Core.Path.{_≡_, sym, ap, ap₂, _∙_, subst}
 use mathlib.Core.Bool.{true, false}
 use Prim.Native.Nat.{ℕ, _+_, _-_, _*_, _/_, _%_, _^_, _≤_, _<_}
-use native.Mathlib.Nat.{one-mul, zero-add, add-zero, add-assoc, add-comm, add-mul, mul-assoc, mul-comm, mul-right-comm, mod-eq-of-lt, mod-lt, lt-of-lt-of-le, le-trans, le-of-eq, sub-add-cancel, mul-div-mul-right, mul-div-left, mul-mod-left, mul-add-mod-self-right, mul-add-div-right, div-add-mod', div-lt-iff-lt-mul, lt-of-mul-lt-mul-right, le-add-right, lt-of-le-of-lt}
+use native.Mathlib.Nat.{one-mul, zero-add, add-zero, add-assoc, add-comm, add-mul, mul-assoc, mul-comm, mul-right-comm, div-one, div-eq-of-lt, mod-eq-of-lt, mod-lt, lt-of-lt-of-le, le-trans, le-of-eq, sub-add-cancel, mul-div-mul-right, mul-div-left, mul-mod-left, mul-add-div-right, div-add-mod', div-lt-iff-lt-mul, lt-of-mul-lt-mul-right, le-add-right, lt-of-le-of-lt}
+use native.Mathlib.Decide.{decLt}
 use native.Mathlib.Omega.{arith}
 use borrow.Author.Tests.{lt-ltb, le-ltb}
 use lib.Dec.{ltb}
-use lib.Arith.{digits-lt, digits-div, digits-mod, mod-mul}
-use lib.Pow.{pow-pos, pow-add, pow-lt, pow-mono, mod-pow-add}
-use Rattle.poly.proofs.Halves.{ltb-cong}
+use lib.Arith.{digits-lt, mod-mul}
+use lib.Pow.{pow-pos, pow-add, pow-lt, pow-mono}
+use Rattle.poly.proofs.Halves.{shr-high}
 
 pub shl-one : (k : ℕ) → k < 64 → 1 * 2 ^ k % 2 ^ 64 ≡ 2 ^ k
 shl-one k h = ap (λ (x : ℕ). x % 2 ^ 64) (one-mul (2 ^ k)) ∙ mod-eq-of-lt (pow-lt h)
@@ -22,6 +23,16 @@ pub halves-lt : (h l : ℕ) → h < 2 ^ 64 → l < 2 ^ 64 → h * 2 ^ 64 + l < 2
 halves-lt h l p q = digits-lt p q
 
 -- ---- below 2^k
+
+ltb-cong : (a b c d : ℕ) → (a < b → c < d) → (c < d → a < b) → ltb a b ≡ ltb c d
+ltb-cong a b c d f g =
+    elim (decLt a b) [
+      | yes h ↦ lt-ltb a b h ∙ sym (lt-ltb c d (f h))
+      | no h ↦ le-ltb a b (omega arith) ∙ sym (le-ltb c d (not-lt c d (λ l. h (g l))))
+    ]
+  where
+    not-lt : (x y : ℕ) → (x < y → ⊥) → y ≤ x
+    not-lt x y n = omega arith
 
 pub below-low : (h l k p : ℕ) → h ≡ 0 → p ≡ 2 ^ k → ltb l p ≡ ltb (h * 2 ^ 64 + l) (2 ^ k)
 below-low h l k p e f = ltb-cong l p (h * 2 ^ 64 + l) (2 ^ k) (λ t. omega arith) (λ t. omega arith)
@@ -37,25 +48,6 @@ below-high h l k p q s e =
 pub below-all : (h l k : ℕ) → h < 2 ^ 64 → l < 2 ^ 64 → 128 ≤ k → true ≡ ltb (h * 2 ^ 64 + l) (2 ^ k)
 below-all h l k p q s = sym (lt-ltb (h * 2 ^ 64 + l) (2 ^ k) (lt-of-lt-of-le (halves-lt h l p q) (pow-mono s)))
 
--- ---- the k lowest bits
-
-pub cut-low : (h l k p : ℕ) → k < 64 → p ≡ 2 ^ k → 0 * 2 ^ 64 + l % p ≡ (h * 2 ^ 64 + l) % 2 ^ k
-cut-low h l k p s e =
-    zero-add (l % p) ∙ ap (λ (x : ℕ). l % x) e
-    ∙ sym (ap (λ (x : ℕ). (x + l) % 2 ^ k)
-    (ap (λ (x : ℕ). h * x) (ap (λ (x : ℕ). 2 ^ x) (sym (sub-add-cancel {n = 64} {m = k} (omega arith))) ∙ pow-add 2 (64 - k) k) ∙ sym (mul-assoc h (2 ^ (64 - k)) (2 ^ k)))
-    ∙ mul-add-mod-self-right (h * 2 ^ (64 - k)) (2 ^ k) l)
-
-pub cut-high : (h l k p : ℕ) → l < 2 ^ 64 → 64 ≤ k → p ≡ 2 ^ (k - 64) → h % p * 2 ^ 64 + l ≡ (h * 2 ^ 64 + l) % 2 ^ k
-cut-high h l k p q s e =
-    sym (ap (λ (x : ℕ). (h * 2 ^ 64 + l) % 2 ^ x) (sym (sub-add-cancel s))
-    ∙ mod-pow-add (h * 2 ^ 64 + l) (k - 64) 64
-    ∙ ap₂ (λ (x y : ℕ). x % 2 ^ (k - 64) * 2 ^ 64 + y) (digits-div h q) (digits-mod h q)
-    ∙ ap (λ (x : ℕ). h % x * 2 ^ 64 + l) (sym e))
-
-pub cut-none : (h l k : ℕ) → h < 2 ^ 64 → l < 2 ^ 64 → 128 ≤ k → h * 2 ^ 64 + l ≡ (h * 2 ^ 64 + l) % 2 ^ k
-cut-none h l k p q s = sym (mod-eq-of-lt (lt-of-lt-of-le (halves-lt h l p q) (pow-mono s)))
-
 -- ---- one bit shifted in
 
 pub push-low-fits : (l b : ℕ) → b < 2 → l * 2 % 2 ^ 64 + b < 2 ^ 64
@@ -66,18 +58,6 @@ push-high-fits h l s = omega arith
 
 pub push-carry : (h l b : ℕ) → 2 * (h * 2 ^ 64 + l) + b ≡ (h * 2 + l / 2 ^ 63) * 2 ^ 64 + (l * 2 % 2 ^ 64 + b)
 push-carry h l b = omega arith
-
-push-top : (h l : ℕ) → l < 2 ^ 64 → (h * 2 + l / 2 ^ 63) % 2 ^ 64 ≡ h * 2 % 2 ^ 64 + l / 2 ^ 63
-push-top h l s = omega arith
-
-pub push-halves : (h l b : ℕ) → l < 2 ^ 64 → b < 2
-    → (h * 2 % 2 ^ 64 + l / 2 ^ 63) * 2 ^ 64 + (l * 2 % 2 ^ 64 + b) ≡ (2 * (h * 2 ^ 64 + l) + b) % 2 ^ 128
-push-halves h l b p s =
-    let q : l * 2 % 2 ^ 64 + b < 2 ^ 64 = push-low-fits l b s in
-    sym (ap (λ (x : ℕ). x % 2 ^ 128) (push-carry h l b)
-    ∙ mod-pow-add ((h * 2 + l / 2 ^ 63) * 2 ^ 64 + (l * 2 % 2 ^ 64 + b)) 64 64
-    ∙ ap₂ (λ (x y : ℕ). x % 2 ^ 64 * 2 ^ 64 + y) (digits-div (h * 2 + l / 2 ^ 63) q) (digits-mod (h * 2 + l / 2 ^ 63) q)
-    ∙ ap (λ (x : ℕ). x * 2 ^ 64 + (l * 2 % 2 ^ 64 + b)) (push-top h l p))
 
 -- ---- shifts by m, with P = 2^m and Q = 2^(64 - m)
 
@@ -157,3 +137,13 @@ down-halves h l m s =
   where
     regroup : (a b c : ℕ) → a + (b + c) ≡ a + c + b
     regroup a b c = omega arith
+
+-- by no bits, from the low half on, and past both halves
+pub down-none : (u k : ℕ) → k ≡ 0 → u ≡ u / 2 ^ k
+down-none u k e = sym (ap (λ (x : ℕ). u / 2 ^ x) e ∙ div-one u)
+
+pub down-high : (h l k : ℕ) → l < 2 ^ 64 → 64 ≤ k → 0 * 2 ^ 64 + h / 2 ^ (k - 64) ≡ (h * 2 ^ 64 + l) / 2 ^ k
+down-high h l k q s = zero-add (h / 2 ^ (k - 64)) ∙ sym (shr-high k h l q s)
+
+pub down-past : (h l k : ℕ) → h < 2 ^ 64 → l < 2 ^ 64 → 128 ≤ k → 0 * 2 ^ 64 + 0 ≡ (h * 2 ^ 64 + l) / 2 ^ k
+down-past h l k p q s = sym (div-eq-of-lt (lt-of-lt-of-le (halves-lt h l p q) (pow-mono s)))

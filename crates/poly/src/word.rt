@@ -1,11 +1,10 @@
 // A word of up to 128 bits in two halves, and the operations that the rest needs: each is proved against the number high * 2^64 + low.
 ghost use mathlib.Core.Path.{_≡_};
-ghost use Prim.Native.Nat.{_+_, _*_, _/_, _%_, _^_, _<_};
-ghost use lib.Count.{ones};
+ghost use Prim.Native.Nat.{_+_, _*_, _/_, _^_, _<_};
 ghost use lib.Dec.{ltb};
 ghost use Rattle.poly.specs.Poly.{bit, _⊕_};
 ghost use Rattle.poly.specs.Word.{number};
-ghost use Rattle.poly.specs.Model.Asked.{ToShift, ToShiftUp};
+ghost use Rattle.poly.specs.Model.Asked.{ToShiftUp};
 
 #[repr(C)]
 pub struct Word {
@@ -41,22 +40,6 @@ pub fn xor(a: Word, b: Word) -> Word
     }
 }
 
-// How many bits are set.
-pub fn count(w: Word) -> u64
-    ensures { λ r. ⌜ r ≡ ones (number w) ⌝ }
-{
-    u64::count_ones(w.low) as u64 + u64::count_ones(w.high) as u64
-}
-
-pub fn less(a: Word, b: Word) -> bool
-    ensures { λ r. ⌜ r ≡ ltb (number a) (number b) ⌝ }
-{
-    if a.high == b.high {
-        return a.low < b.low;
-    }
-    a.high < b.high
-}
-
 // 2^k.
 pub fn power(k: u64) -> u64
     requires { ⌜ k < 64 ⌝ }
@@ -81,36 +64,6 @@ pub fn is_below(w: Word, k: u64) -> bool
     true
 }
 
-// The k lowest bits.
-pub fn low_bits(w: Word, k: u64) -> Word
-    ensures { λ r. ⌜ number r ≡ number w % 2 ^ k ⌝ }
-{
-    if k < 64 {
-        return Word {
-            low: w.low % power(k),
-            high: 0,
-        };
-    }
-    if k < 128 {
-        return Word {
-            low: w.low,
-            high: w.high % power(k - 64),
-        };
-    }
-    w
-}
-
-// One bit shifted in at the low end; the highest falls out.
-pub fn shift_in(w: Word, b: u64) -> Word
-    requires { ⌜ b < 2 ⌝ }
-    ensures { λ r. ⌜ number r ≡ (2 * number w + b) % 2 ^ 128 ⌝ }
-{
-    Word {
-        low: (w.low << 1) + b,
-        high: (w.high << 1) + (w.low >> 63),
-    }
-}
-
 // x^m times the word, where that has no more than 128 bits.
 pub fn shift_up(w: Word, m: u64) -> Word
     requires { ⌜ ToShiftUp (number w) m ⌝ }
@@ -122,13 +75,24 @@ pub fn shift_up(w: Word, m: u64) -> Word
     }
 }
 
-// The word without its m lowest bits.
-pub fn shift_down(w: Word, m: u64) -> Word
-    requires { ⌜ ToShift m ⌝ }
-    ensures { λ r. ⌜ number r ≡ number w / 2 ^ m ⌝ }
+// The word without its k lowest bits.
+pub fn shift_down(w: Word, k: u64) -> Word
+    ensures { λ r. ⌜ number r ≡ number w / 2 ^ k ⌝ }
 {
-    Word {
-        low: (w.low >> m) + (w.high << (64 - m)),
-        high: w.high >> m,
+    if k == 0 {
+        return w;
     }
+    if k < 64 {
+        return Word {
+            low: (w.low >> k) + (w.high << (64 - k)),
+            high: w.high >> k,
+        };
+    }
+    if k < 128 {
+        return Word {
+            low: w.high >> (k - 64),
+            high: 0,
+        };
+    }
+    Word { low: 0, high: 0 }
 }

@@ -34,7 +34,8 @@ shift-up-requires c κs =
     let none = sym (c .before .before .before .ask-polynomial .ensures) ∙ c .before .before .if1 .left in
     let g = accepted-polynomial (a .bits) (a .m) (a .polynomial) none in
     record {
-      by = record { some-bits = omega arith; below-64 = omega arith };
+      some-bits = omega arith;
+      below-64 = omega arith;
       fits =
           shifted-fits (a .bits) (a .m) _ (g .at-most-128) (g .degree-below)
           (ltb-true _ _ (sym (c .before .is-below .ensures) ∙ not-false _ (c .if2 .left)));

@@ -1,7 +1,6 @@
 -- Refused by one of the questions, or the remainder decides.
 -- Assumes nothing.
 use mathlib.Core.Path.{sym, ap, _∙_}
-use native.Mathlib.Omega.{arith}
 use borrow.Author.Tests.{not-true, not-false, ltb-true}
 use Rattle.order.specs.Answer.{accepted}
 use Rattle.crc.specs.Check.{message, stripCall}
@@ -41,11 +40,7 @@ unfolding stripCall
 returns-3 c = ap accepted (sym (strip-nonzero _ _ _ _ (c .before .remainder-of .ensures) (c .if3 .taken))) ∙ answered _ _ _ _ _ _ _ (c .before .before .before .before .before .ask-polynomial .ensures) (c .before .before .before .before .if1 .left) (sym (c .before .before .before .is-below .ensures) ∙ not-false _ (c .before .before .if2 .left))
 
 shift-down-requires : tie.Need-shift-down-requires
-shift-down-requires c κs =
-    let a = c .before .before .before .before .before .before .args in
-    let none = sym (c .before .before .before .before .before .ask-polynomial .ensures) ∙ c .before .before .before .before .if1 .left in
-    let g = accepted-polynomial (a .bits) (a .m) (a .polynomial) none in
-    record { some-bits = omega arith; below-64 = omega arith }
+shift-down-requires c κs = tt
 
 returns-4 : tie.Need-returns-4
 unfolding stripCall

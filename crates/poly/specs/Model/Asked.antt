@@ -1,4 +1,4 @@
--- What division and the shifts ask of their numbers, by name (a model).
+-- What division and a shift up ask of their numbers, by name (a model).
 -- Assumes nothing.
 use Prim.Native.Nat.{ℕ, _*_, _^_, _≤_, _<_}
 use Rattle.poly.specs.Poly.{HasDegree}
@@ -28,14 +28,9 @@ pub record ToTake (m p r b : ℕ) : Type 0 where
   pub below : r < 2 ^ m
   pub digit : b < 2
 
--- ---- shifts
+-- ---- a shift up, by some bits, fewer than a half has, with nothing lost
 
--- by some bits, fewer than a half has
-pub record ToShift (m : ℕ) : Type 0 where
+pub record ToShiftUp (u m : ℕ) : Type 0 where
   pub some-bits : 0 < m
   pub below-64 : m < 64
-
--- up, with nothing lost
-pub record ToShiftUp (u m : ℕ) : Type 0 where
-  pub by : ToShift m
   pub fits : u * 2 ^ m < 2 ^ 128

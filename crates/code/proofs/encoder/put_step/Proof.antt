@@ -12,16 +12,16 @@ use Rattle.code.specs.Trellis.{tapped}
 use Rattle.code.proofs.encoder.put_step.Statement.{statement}
 use Rattle.code.proofs.encoder.put_step.Tie as tie
 
-record Storing (output₀ : List ℕ) (at : ℕ) (gs : List ℕ) (window : ℕ) (output : List ℕ) (i : ℕ) : Type 0 where
+record Storing (output₀ : List ℕ) (at : ℕ) (gs : List ℕ) (inputs : ℕ) (output : List ℕ) (i : ℕ) : Type 0 where
   within : i ≤ length gs
   same-size : length output ≡ length output₀
-  stored : output ≡ sets output₀ at (map (tapped window) (take i gs))
+  stored : output ≡ sets output₀ at (map (tapped inputs) (take i gs))
 
 abbrev Inv-loop : tie.InvT-loop
-Inv-loop output₀ at generators window i₀ output i = Storing output₀ at generators window output i
+Inv-loop output₀ at generators inputs i₀ output i = Storing output₀ at generators inputs output i
 
 abbrev μ-loop : tie.MeasureT-loop
-μ-loop output₀ at generators window i₀ output i = length generators - i
+μ-loop output₀ at generators inputs i₀ output i = length generators - i
 
 loop-holds : tie.Need-loop-holds Inv-loop μ-loop
 loop-holds c = record { within = zero-le; same-size = refl; stored = refl }
@@ -51,7 +51,7 @@ loop-again : tie.Need-loop-again Inv-loop μ-loop
 loop-again c =
     let l = c .before .before .before .loop in
     let a = c .before .before .before .before .before .before .args in
-    let more = sets-map-more (tapped (a .window)) (a .generators .now) 0 (a .output .now) (a .at) (l .i) _ (omega arith) in
+    let more = sets-map-more (tapped (a .inputs)) (a .generators .now) 0 (a .output .now) (a .at) (l .i) _ (omega arith) in
     record {
       within = omega arith;
       same-size = length-set (l .output) (a .at + l .i) _ ∙ l .inv .same-size;
@@ -65,7 +65,7 @@ returns : tie.Need-returns Inv-loop μ-loop
 returns c =
     let l = c .before .loop in
     let a = c .before .before .before .before .args in
-    l .inv .stored ∙ sets-map-all (tapped (a .window)) (a .generators .now) 0 (a .output .now) (a .at) (l .i) (omega arith)
+    l .inv .stored ∙ sets-map-all (tapped (a .inputs)) (a .generators .now) 0 (a .output .now) (a .at) (l .i) (omega arith)
 
 pub put-step-spec : {M : Type 1} → statement M
 put-step-spec =

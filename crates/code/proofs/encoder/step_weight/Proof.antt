@@ -4,10 +4,10 @@ use native.Mathlib.Nat.{zero-add}
 use native.Mathlib.Omega.{arith}
 use mathlib.Core.Path.{_≡_}
 use mathlib.Core.List.{List}
-use Prim.Native.Nat.{ℕ, _+_, _-_, _/_, _%_, _≤_}
-use lib.ListN.{length, drop, getD}
+use Prim.Native.Nat.{ℕ, _+_, _-_, _/_, _%_, _≤_, _<_}
+use lib.ListN.{length, drop}
 use Rattle.code.specs.Trellis.{stepWeight}
-use Rattle.code.proofs.Weights.{step-again, step-end, ones-fit}
+use Rattle.code.proofs.Weights.{tapped-lt, step-again, step-end}
 use Rattle.code.proofs.encoder.step_weight.Statement.{statement}
 use Rattle.code.proofs.encoder.step_weight.Tie as tie
 
@@ -25,17 +25,23 @@ abbrev μ-loop : tie.MeasureT-loop
 loop-holds : tie.Need-loop-holds Inv-loop μ-loop
 loop-holds c = record { within = omega arith; small = omega arith; adds = zero-add _ }
 
-mul-sum : tie.Need-mul-sum Inv-loop μ-loop
-mul-sum c = omega arith
+mul-parity : tie.Need-mul-parity Inv-loop μ-loop
+mul-parity c = omega arith
 
-shared-slice-read-sum : tie.Need-shared-slice-read-sum Inv-loop μ-loop
-shared-slice-read-sum c = omega arith
+shared-slice-read-parity : tie.Need-shared-slice-read-parity Inv-loop μ-loop
+shared-slice-read-parity c = omega arith
+
+parity-requires : tie.Need-parity-requires Inv-loop μ-loop
+parity-requires c κs = tt
+
+digit : (c : tie.After-parity Inv-loop μ-loop) → c .parity .result < 2
+digit c = rw (c .parity .ensures) (tapped-lt _ _)
 
 cast-sum : tie.Need-cast-sum Inv-loop μ-loop
-cast-sum c = let a = c .before .before .before .args in record { fits = ones-fit (getD (a .generators .now) (c .before .before .loop .i) 0) (a .x) (c .shared-slice-known .given (c .before .before .loop .i) .fits) (omega arith) }
+cast-sum c = omega (arith, digit c)
 
 add-sum : tie.Need-add-sum Inv-loop μ-loop
-add-sum c = omega arith
+add-sum c = omega (arith, digit c)
 
 add-i : tie.Need-add-i Inv-loop μ-loop
 add-i c = omega arith
@@ -44,7 +50,9 @@ loop-less : tie.Need-loop-less Inv-loop μ-loop
 loop-less c = omega arith
 
 loop-again : tie.Need-loop-again Inv-loop μ-loop
-loop-again c = record { within = omega arith; small = omega arith; adds = step-again _ _ _ _ (omega arith) (c .before .before .loop .inv .adds) }
+loop-again c =
+    let l = c .before .before .before .loop in
+    record { within = omega arith; small = omega (arith, digit c); adds = step-again _ _ (l .i) _ _ (omega arith) (l .inv .adds) (c .parity .ensures) }
 
 returns : tie.Need-returns Inv-loop μ-loop
 returns c = step-end _ _ (c .before .loop .i) _ (omega arith) (c .before .loop .inv .adds)
@@ -56,8 +64,9 @@ step-weight-spec =
     Inv-loop
     μ-loop
     loop-holds
-    mul-sum
-    shared-slice-read-sum
+    mul-parity
+    shared-slice-read-parity
+    parity-requires
     cast-sum
     add-sum
     add-i
