@@ -33,7 +33,9 @@
   On a terminated link every walk begins and ends at the state 0, and only that
   state has events, of 1 to N+v steps; nothing is rotated. Their inputs have at
   most N bits, since a nonzero one ends in v zeros.
-  A path is a word, not zero, of weight below the threshold d (1 to 64).
+  A path is a word, not zero, of weight below the threshold d (1 to 64). No
+  word but zero weighs 0, so a list of counts begins at weight 1: it has d - 1
+  entries, weight w is entry w - 1, and where d is 1 it may be empty.
 
   A check polynomial has degree m (1 to 12, below N) and constant term 1. It
   turns a message of K = N - m bits into a word of N bits: the message stands
@@ -46,8 +48,8 @@
   The best polynomial of degree m is the one under which the fewest paths pass
   the check unseen: of two, the one with fewer undetected paths at the lowest
   weight where they differ. Its row is the order, how many events and paths
-  there are, both counts of every weight below d, and the polynomial. A row's
-  text does not say the kind of link.
+  there are, both counts of every weight from 1 to d - 1, and the polynomial. A
+  row's text does not say the kind of link.
 
   Events of a tail-biting link that were collected for N serve every shorter
   length: those of at most N' steps, in their order, are the events for N'. To
@@ -59,7 +61,8 @@
       #include "dohvrin.h"
 
       static struct dohvrin_event events[512];
-      static uint64_t paths[2 * 2048], plain[64], undetected[64], work[DOHVRIN_WORK];
+      static uint64_t paths[2 * 2048], work[DOHVRIN_WORK];
+      static uint64_t plain[DOHVRIN_COUNTS], undetected[DOHVRIN_COUNTS];
       static uint8_t text[DOHVRIN_TEXT];
 
       int main(void) {
@@ -69,8 +72,8 @@
           const struct dohvrin_tables tables = {
               .events = events, .event_entries = 512,
               .paths = paths, .path_numbers = 2 * 2048,
-              .plain = plain, .plain_entries = 64,
-              .undetected = undetected, .undetected_entries = 64,
+              .plain = plain, .plain_entries = DOHVRIN_COUNTS,
+              .undetected = undetected, .undetected_entries = DOHVRIN_COUNTS,
               .work = work, .work_numbers = DOHVRIN_WORK};
           struct dohvrin_row row = dohvrin_search_in(order, tables);
           struct dohvrin_answer written;
@@ -79,7 +82,8 @@
               written = dohvrin_refusal_text(row.refusal, row.left, text, DOHVRIN_TEXT);
           else
               written = dohvrin_row_text(order, row.events, row.paths, row.polynomial,
-                                         plain, 64, undetected, 64, text, DOHVRIN_TEXT);
+                                         plain, DOHVRIN_COUNTS, undetected, DOHVRIN_COUNTS,
+                                         text, DOHVRIN_TEXT);
           fwrite(text, 1, written.value, stdout);
           return 0;
       }
@@ -89,7 +93,6 @@
       ORDER 2 1 4 2 6 1 3
       EVENTS 5
       PATHS 13
-      A 0 0 0
       A 1 0 0
       A 2 0 0
       A 3 4 0
@@ -144,13 +147,13 @@
            Has the work area at least 8,192 numbers?                collect list
                                                                     search quote
                                                                     count
-           Has each list of counts at least d entries?              list search
+           Has each list of counts at least d - 1 entries?          list search
                                                                     quote count
                                                                     row_text
            Has the text at least 4,096 bytes?                       row_text
                                                                     refusal_text
-           Is there a count of the weight, and has the table the
-           paths of all weights up to it?                           part
+           Is there a count of the weight, which is 1 or more, and
+           has the table the paths of all weights up to it?         part
       11   Has the polynomial degree m and constant term 1?         append strip
                                                                     test count
       12   Is the word below 2^N, the message below 2^K?            append strip
@@ -254,6 +257,9 @@ struct dohvrin_part {
 /* The least bytes of a text; no text has more. */
 #define DOHVRIN_TEXT 4096
 
+/* The entries of a list of counts that is long enough for every d: weights 1 to 63. */
+#define DOHVRIN_COUNTS 63
+
 /*
   Appends the remainder of a message f = high * 2^64 + low of K = bits - m bits
   under the polynomial. Accepted: low and high are the word x^m f plus the
@@ -283,9 +289,9 @@ struct dohvrin_answer dohvrin_test(uint64_t bits, uint64_t m, uint64_t polynomia
 
 /*
   Weighs a word of N bits under the order's code; m and d do not matter.
-  Accepted: value is the weight, 0 to n times N, or to n times N+v on a
-  terminated link. Refusals: 2, 3, 4, 5, 8, 9, 16, 12 (the word is not below
-  2^N).
+  Accepted: value is the weight, 0 for the word 0 and else from 1 to n times N,
+  or to n times N+v on a terminated link. Refusals: 2, 3, 4, 5, 8, 9, 16, 12
+  (the word is not below 2^N).
 */
 struct dohvrin_answer dohvrin_weigh(struct dohvrin_order order, uint64_t low, uint64_t high);
 
@@ -325,14 +331,15 @@ struct dohvrin_answer dohvrin_collect(struct dohvrin_order order, struct dohvrin
   low half first: the paths of the least weight come first, and those of one
   weight in increasing order; the numbers after them are 0, and so is the last
   one of an odd table. The plain counts say how many paths there are of each
-  weight from 0 to d - 1, and are 0 after that. The event table is as
-  dohvrin_collect leaves it, and the work area is 0 throughout. Refusals 13,
-  there are more events than entries, and 14, there are more paths than pairs
-  of numbers: all four tables are 0 throughout. Other refusals: 2, 3, 4, 5, 7,
-  8, 9, 16, 10 (plain_entries is below d, or work_numbers is below
-  DOHVRIN_WORK); then all four are as they were. What they held before the call
-  does not matter. That the pointers have as many entries and numbers as is
-  said, and that none of the tables overlaps another, cannot be checked.
+  weight from 1 to d - 1, in plain[w - 1] those of weight w, and are 0 after
+  that. The event table is as dohvrin_collect leaves it, and the work area is 0
+  throughout. Refusals 13, there are more events than entries, and 14, there
+  are more paths than pairs of numbers: all four tables are 0 throughout. Other
+  refusals: 2, 3, 4, 5, 7, 8, 9, 16, 10 (plain_entries is below d - 1, or
+  work_numbers is below DOHVRIN_WORK); then all four are as they were. What
+  they held before the call does not matter. That the pointers have as many
+  entries and numbers as is said, and that none of the tables overlaps another,
+  cannot be checked.
 */
 struct dohvrin_listing dohvrin_list(struct dohvrin_order order, struct dohvrin_event *events,
                                     size_t event_entries, uint64_t *paths, size_t path_numbers,
@@ -341,13 +348,13 @@ struct dohvrin_listing dohvrin_list(struct dohvrin_order order, struct dohvrin_e
 
 /*
   Finds the paths of one weight in a path table, by the counts of its paths of
-  each weight from 0. Accepted: paths[start] is the first of their numbers, and
-  there are `numbers` of them, 0 where no path has that weight. The only
-  refusal is 10: count_entries is not above the weight, or the paths of all
-  weights up to it are more than the table has pairs of numbers. The counts may
-  be any: their sum may pass 64 bits, which is 10 as well. Table and counts are
-  only read; that the pointers have as many numbers as is said cannot be
-  checked.
+  each weight from 1: counts[w - 1] is that of weight w. Accepted: paths[start]
+  is the first of their numbers, and there are `numbers` of them, 0 where no
+  path has that weight. The only refusal is 10: the weight is 0 or above
+  count_entries, or the paths of all weights up to it are more than the table
+  has pairs of numbers. The counts may be any: their sum may pass 64 bits,
+  which is 10 as well. Table and counts are only read; that the pointers have
+  as many numbers as is said cannot be checked.
 */
 struct dohvrin_part dohvrin_part(const uint64_t *paths, size_t path_numbers,
                                  const uint64_t *counts, size_t count_entries, uint64_t weight);
@@ -357,17 +364,17 @@ struct dohvrin_part dohvrin_part(const uint64_t *paths, size_t path_numbers,
   bits, by the paths of weight below d. Accepted: the answer has the
   polynomial, and says how many events and paths there are. Event table, path
   table, plain counts and work area are as dohvrin_list leaves them. The
-  undetected counts say how many of the paths of each weight from 0 to d - 1
-  the polynomial divides, and are 0 after that. Refusal 15, several are best:
-  `left` says how many, the rest of the answer is 0; the tables and plain
-  counts are as an accepted call leaves them, and the undetected counts are
-  those that the best ones share. Refusals 13, there are more events than
-  entries, and 14, there are more paths than pairs of numbers: all five are 0
-  throughout. Other refusals: 2 to 9, 16, 10 (plain_entries or
-  undetected_entries is below d, or work_numbers is below DOHVRIN_WORK); then
-  all five are as they were. What they held before the call does not matter.
-  That the pointers have as many entries and numbers as is said, and that none
-  of the tables overlaps another, cannot be checked.
+  undetected counts say how many of the paths of each weight from 1 to d - 1
+  the polynomial divides, in undetected[w - 1] those of weight w, and are 0
+  after that. Refusal 15, several are best: `left` says how many, the rest of
+  the answer is 0; the tables and plain counts are as an accepted call leaves
+  them, and the undetected counts are those that the best ones share. Refusals
+  13, there are more events than entries, and 14, there are more paths than
+  pairs of numbers: all five are 0 throughout. Other refusals: 2 to 9, 16, 10
+  (plain_entries or undetected_entries is below d - 1, or work_numbers is below
+  DOHVRIN_WORK); then all five are as they were. What they held before the call
+  does not matter. That the pointers have as many entries and numbers as is
+  said, and that none of the tables overlaps another, cannot be checked.
 */
 struct dohvrin_row dohvrin_search(struct dohvrin_order order, struct dohvrin_event *events,
                                   size_t event_entries, uint64_t *paths, size_t path_numbers,
@@ -416,13 +423,13 @@ struct dohvrin_listing dohvrin_count(struct dohvrin_order order, uint64_t polyno
 
 /*
   Writes the row of an order: ORDER with n, v, N, m, d and the generators in
-  octal, but not the version; EVENTS; PATHS; for each weight from 0 to d - 1 a
+  octal, but not the version; EVENTS; PATHS; for each weight from 1 to d - 1 a
   line A with the weight and both counts; CRC with the polynomial in
   hexadecimal. Accepted: value is the number of its bytes, which the text
   begins with; each line ends with a line feed, and the bytes after the last
   are 0. Nothing is computed, and the row is printed as it is told, for an
   order that a call has accepted before: of all questions only 2, 3, 7, and 10
-  (plain_entries or undetected_entries is below d, or size is below
+  (plain_entries or undetected_entries is below d - 1, or size is below
   DOHVRIN_TEXT) are asked, and their refusals leave the text as it was. The
   other numbers may be any. The counts are only read; that the pointers have as
   many as is said, and that the text overlaps none of them, cannot be checked.
@@ -463,7 +470,7 @@ struct dohvrin_tables {
     size_t event_entries;
     uint64_t *paths; /* two numbers a path */
     size_t path_numbers;
-    uint64_t *plain; /* how many paths there are of each weight */
+    uint64_t *plain; /* how many paths there are of each weight, from 1 on */
     size_t plain_entries;
     uint64_t *undetected; /* how many of them the polynomial divides */
     size_t undetected_entries;

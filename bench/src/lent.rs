@@ -18,7 +18,7 @@ pub struct Lent {
 
 impl Lent {
     pub fn new(order: Order) -> Lent {
-        let d = order.d as usize;
+        let weights = order.d as usize - 1;
         // Not zeros: those are no memory until the first call has touched it.
         let full = Event {
             state: u64::MAX,
@@ -29,8 +29,8 @@ impl Lent {
             events: vec![full; order.events],
             numbers: vec![u64::MAX; 2 * order.paths],
             words: vec![u128::MAX; order.paths],
-            plain: vec![0; d],
-            undetected: vec![0; d],
+            plain: vec![0; weights],
+            undetected: vec![0; weights],
             work: vec![0; WORK],
         }
     }

@@ -35,15 +35,15 @@ enum { MOST_BYTES = 64, MOST_OUTPUT = 4 * (128 + 8), ENTRIES = 16000, PATHS = 16
 /* Lent to one call after another, none of which needs what they hold. */
 static struct dohvrin_event events[ENTRIES];
 static uint64_t paths[2 * PATHS];
-static uint64_t counts[64];
-static uint64_t undetected[64];
+static uint64_t counts[DOHVRIN_COUNTS];
+static uint64_t undetected[DOHVRIN_COUNTS];
 static uint64_t work[DOHVRIN_WORK];
 static uint8_t text[DOHVRIN_TEXT];
 static const struct dohvrin_tables tables = {
     .events = events, .event_entries = ENTRIES,
     .paths = paths, .path_numbers = 2 * PATHS,
-    .plain = counts, .plain_entries = 64,
-    .undetected = undetected, .undetected_entries = 64,
+    .plain = counts, .plain_entries = DOHVRIN_COUNTS,
+    .undetected = undetected, .undetected_entries = DOHVRIN_COUNTS,
     .work = work, .work_numbers = DOHVRIN_WORK,
 };
 
@@ -159,11 +159,14 @@ static void print_events(struct dohvrin_order order)
     }
 }
 
-/* Plain counts, and the first SHOWN of the heaviest paths. 14: there are more than PATHS. */
+/*
+  Plain counts, weight w in entry w - 1, and the first SHOWN of the heaviest paths. 14: there
+  are more than PATHS.
+*/
 static void print_paths(struct dohvrin_order order)
 {
     struct dohvrin_listing a = dohvrin_list_in(order, tables);
-    uint64_t heaviest = 0;
+    uint64_t heaviest = 0; /* of no path: refused by 10 */
     struct dohvrin_part part;
 
     if (a.refusal != 0) {
@@ -171,13 +174,13 @@ static void print_paths(struct dohvrin_order order)
         return;
     }
     printf("  paths    %" PRIu64 "\n  counts  ", a.paths);
-    for (uint64_t w = 0; w < order.d; w++) {
-        printf(" %" PRIu64, counts[w]);
-        if (counts[w] != 0)
+    for (uint64_t w = 1; w < order.d; w++) {
+        printf(" %" PRIu64, counts[w - 1]);
+        if (counts[w - 1] != 0)
             heaviest = w;
     }
     putchar('\n');
-    part = dohvrin_part(paths, 2 * PATHS, counts, 64, heaviest);
+    part = dohvrin_part(paths, 2 * PATHS, counts, DOHVRIN_COUNTS, heaviest);
     for (size_t i = 0; part.refusal == 0 && i < part.numbers && i < 2 * SHOWN; i += 2) {
         const uint64_t *path = &paths[part.start + i];
         printf("    weight %" PRIu64 ", word 0x%016" PRIx64 "%016" PRIx64 "\n",
@@ -196,8 +199,8 @@ static void print_undetected(struct dohvrin_order order)
         return;
     }
     printf("  unseen under 0x%" PRIX64 ":", polynomial);
-    for (uint64_t w = 0; w < order.d; w++)
-        printf(" %" PRIu64, undetected[w]);
+    for (uint64_t w = 1; w < order.d; w++)
+        printf(" %" PRIu64, undetected[w - 1]);
     putchar('\n');
 }
 
@@ -209,8 +212,9 @@ static void print_row(struct dohvrin_order order, struct dohvrin_row row)
     if (row.refusal != 0)
         written = dohvrin_refusal_text(row.refusal, row.left, text, sizeof text);
     else
-        written = dohvrin_row_text(order, row.events, row.paths, row.polynomial, counts, 64,
-                                   undetected, 64, text, sizeof text);
+        written = dohvrin_row_text(order, row.events, row.paths, row.polynomial,
+                                   counts, DOHVRIN_COUNTS, undetected, DOHVRIN_COUNTS,
+                                   text, sizeof text);
     fwrite(text, 1, written.value, stdout);
 }
 

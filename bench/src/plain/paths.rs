@@ -9,9 +9,9 @@ use dso_ref::link::{Code, Kind};
 /// No chain weighs as much: past every threshold.
 const NEVER: u8 = 255;
 
-/// How many paths there are below d of a right code. The words are in the table by weight and number, zeros after them, and the counts by
-/// weight; the events are as `collect` leaves them. Nothing where a
-/// table is too small.
+/// How many paths there are below d of a right code. The words are in the table
+/// by weight and number, zeros after them, and the counts by weight from 1; the
+/// events are as `collect` leaves them. Nothing where a table is too small.
 pub fn list(
     code: Code,
     d: u64,
@@ -29,7 +29,7 @@ pub fn list(
     }
     let mut found = Found { paths, at: 0 };
     counts.fill(0);
-    for (w, count) in (0..d).zip(counts) {
+    for (w, count) in (1..d).zip(counts) {
         let before = found.at;
         for state in &states {
             state.chain(state.steps, w as u8, 0, 1, &mut found);

@@ -2,14 +2,13 @@
 -- Assumes nothing.
 use mathlib.Core.Bool.{cond}
 use mathlib.Core.List.{List}
-use Prim.Native.Nat.{ℕ, _*_, _/_, _%_, _^_}
-use lib.ListN.{getD}
+use Prim.Native.Nat.{ℕ, _-_, _*_, _/_, _%_, _^_}
 use Rattle.order.specs.Answer.{Answer, accepted, refused, refusedWith, refusalNumber}
-use Rattle.order.specs.Order.{Order}
+use Rattle.order.specs.Order.{Order, ofWeight}
 use Rattle.order.specs.Answers.{recordOf}
 use Rattle.order.specs.declared.record.OrderRecord.{OrderRecord}
 use Rattle.crc.specs.Check.{Stripping, message, damaged, Divisibility, divisible, indivisible}
-use Rattle.paths.specs.Part.{pathsBefore, partFits}
+use Rattle.paths.specs.Part.{pathsTo, partFits}
 use Rattle.listing.specs.Calls.{Listing}
 use Rattle.search.specs.Calls.{Found}
 use Rattle.answers.specs.declared.HostAnswer.{HostAnswer}
@@ -73,7 +72,7 @@ rowAnswer (a, left) = (searchAnswer a, left)
 -- the part of one weight: its first number in the caller's table, and how many numbers it has, two a path
 unfoldable pub partAnswer : List ℕ → ℕ → List ℕ → PartAnswer
 partAnswer counts w table =
-    cond (partFits counts w table) record { refusal = 0; start = 2 * pathsBefore counts w; numbers = 2 * getD counts w 0 } record { refusal = 10; start = 0; numbers = 0 }
+    cond (partFits counts w table) record { refusal = 0; start = 2 * pathsTo counts (w - 1); numbers = 2 * ofWeight w counts } record { refusal = 10; start = 0; numbers = 0 }
 
 -- the order of a record, as the struct that the calls take
 unfoldable pub noOrder : OrderRecord

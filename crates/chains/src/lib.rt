@@ -166,7 +166,7 @@ fn list_state(
     chain(events, work, paths, at, begun)
 }
 
-// The words of weight w are appended at `at`, state by state; the position after them.
+// The nonzero words of weight w, which may be 0, are appended at `at`, state by state; the position after them.
 pub fn list_weight(
     events: &[Event],
     work: &mut [u64],

@@ -1,10 +1,10 @@
 -- The candidates that are left: those that no candidate betters. There is one at least, they all have the same counts, and every other candidate
 -- is worse than each of them.
 -- Assumes nothing.
-use Prim.Native.Nat.{ℕ, _-_, _≤_, _<_}
-use native.Mathlib.Nat.{zero-add, one-le-pow}
+use Prim.Native.Nat.{ℕ, _+_, _-_, _≤_, _<_}
+use native.Mathlib.Nat.{one-le-pow}
 use native.Mathlib.Omega.{arith}
-use mathlib.Core.Path.{_≡_, sym, ap, _∙_, subst}
+use mathlib.Core.Path.{_≡_, sym, _∙_, subst}
 use mathlib.Core.Bool.{Bool, not}
 use mathlib.Core.Logic.{_↔_, _⊎_, inl, inr, ⊎-elim}
 use mathlib.Core.List.{List, [], _∷_, List·Memᴰ}
@@ -25,13 +25,14 @@ use Rattle.choice.proofs.Candidates.{candidates-sorted, length-candidat
 module _ (o : Order) where
   -- ---- the counts of one polynomial
 
-  pub length-undetectedCounts : (p : ℕ) → length (undetectedCounts o p) ≡ o .d
+  pub length-undetectedCounts : (p : ℕ) → length (undetectedCounts o p) ≡ o .d - 1
   unfolding undetectedCounts weights
-  length-undetectedCounts p = length-map-upFrom (undetectedCount o p) 0 (o .d)
+  length-undetectedCounts p = length-map-upFrom (undetectedCount o p) 1 (o .d - 1)
 
-  pub undetected-count-at : (p w : ℕ) → w < o .d → getD (undetectedCounts o p) w 0 ≡ undetectedCount o p w
+  -- entry k is of weight k + 1
+  pub undetected-count-at : (p k : ℕ) → k < o .d - 1 → getD (undetectedCounts o p) k 0 ≡ undetectedCount o p (1 + k)
   unfolding undetectedCounts weights
-  undetected-count-at p w h = getD-map-upFrom (undetectedCount o p) 0 (o .d) w 0 h ∙ ap (undetectedCount o p) (zero-add w)
+  undetected-count-at p k h = getD-map-upFrom (undetectedCount o p) 1 (o .d - 1) k 0 h
 
   -- equal counts, or one betters the other
   pub better-or-same : (p q : ℕ) → (undetectedCounts o p ≡ undetectedCounts o q) ⊎ T (betters o p q) ⊎ T (betters o q p)

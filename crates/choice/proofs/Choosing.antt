@@ -30,41 +30,41 @@ unfolding firstOf
 firstOf-map g [] some = absurd (List·Memᴰ·not-nil (some .1))
 firstOf-map g (k ∷ l) some = refl
 
-module _ (m d : ℕ) (table plain : List ℕ) where
+module _ (m entries : ℕ) (table plain : List ℕ) where
   abbrev counts : ℕ → List ℕ
-  counts p = dividedCounts m table plain d p
+  counts p = dividedCounts m table plain entries p
 
-  counts-length : (p : ℕ) → length (counts p) ≡ d
-  counts-length p = length-dividedCounts m p table plain d
+  counts-length : (p : ℕ) → length (counts p) ≡ entries
+  counts-length p = length-dividedCounts m p table plain entries
 
   -- ---- before the comparison
 
-  pub first-counted : (p : ℕ) (before after : List ℕ) → p ≡ 2 ^ m + 2 * 0 + 1 → after ≡ countedFrom m p table plain 0 d before
-      → take d after ≡ counts (2 ^ m + 1)
+  pub first-counted : (p : ℕ) (before after : List ℕ) → p ≡ 2 ^ m + 2 * 0 + 1 → after ≡ countedFrom m p table plain 0 entries before
+      → take entries after ≡ counts (2 ^ m + 1)
   first-counted p before after named e =
       let same : p ≡ 2 ^ m + 1 = omega arith in
-      ap (take d) (e ∙ counted-laid m p table plain d before) ∙ take-laid d (counts p) before (counts-length p) ∙ ap counts same
+      ap (take entries) (e ∙ counted-laid m p table plain entries before) ∙ take-laid entries (counts p) before (counts-length p) ∙ ap counts same
 
-  pub left-listed : (p q : ℕ) (before between after : List ℕ) → between ≡ countedFrom m p table plain 0 d before
+  pub left-listed : (p q : ℕ) (before between after : List ℕ) → between ≡ countedFrom m p table plain 0 entries before
       → after ≡ laid (counts q) between → after ≡ laid (counts q) before
   left-listed p q before between after e f =
-      f ∙ ap (laid (counts q)) (e ∙ counted-laid m p table plain d before) ∙ laid-again d (counts p) (counts q) before (counts-length p) (counts-length q)
+      f ∙ ap (laid (counts q)) (e ∙ counted-laid m p table plain entries before) ∙ laid-again entries (counts p) (counts q) before (counts-length p) (counts-length q)
 
   -- ---- after it
 
   module _ (small : m ≤ 12) (n : ℕ) (alive : List Bool) (all : n ≡ 2 ^ (m - 1)) (flags : alive ≡ flagsLeft m counts) where
-    left-is-alive : leftOver m table plain d ≡ map (λ k. 2 ^ m + 2 * k + 1) (aliveBelow alive n)
+    left-is-alive : leftOver m table plain entries ≡ map (λ k. 2 ^ m + 2 * k + 1) (aliveBelow alive n)
     unfolding leftOver
     left-is-alive =
-        left-alive m counts d counts-length small ∙ rw (← flags, ← all)
+        left-alive m counts entries counts-length small ∙ rw (← flags, ← all)
 
-    pub left-counted : (left : ℕ) → left ≡ length (aliveBelow alive n) → left ≡ length (leftOver m table plain d)
+    pub left-counted : (left : ℕ) → left ≡ length (aliveBelow alive n) → left ≡ length (leftOver m table plain entries)
     left-counted left e = e ∙ sym (ap length left-is-alive ∙ length-map (aliveBelow alive n) (λ k. 2 ^ m + 2 * k + 1))
 
-    pub left-first : (first p : ℕ) → first ≡ firstOf (aliveBelow alive n) → p ≡ 2 ^ m + 2 * first + 1 → p ≡ firstOf (leftOver m table plain d)
+    pub left-first : (first p : ℕ) → first ≡ firstOf (aliveBelow alive n) → p ≡ 2 ^ m + 2 * first + 1 → p ≡ firstOf (leftOver m table plain entries)
     unfolding leftOver
     left-first first p e named =
-        let some = some-left m counts d counts-length in
+        let some = some-left m counts entries counts-length in
         let g : ℕ → ℕ = λ k. 2 ^ m + 2 * k + 1 in
         let up : List·Memᴰ (some .0) (map g (aliveBelow alive n)) = subst (List·Memᴰ (some .0)) left-is-alive (some .1) in
         named ∙ ap g e ∙ sym (ap firstOf left-is-alive ∙ firstOf-map g (aliveBelow alive n) (some .0, up))

@@ -1,7 +1,7 @@
 -- What the choice says. `one p counts`: p alone is best, and every other polynomial of degree m and constant term 1 has more undetected words
 -- at the lowest weight where the two differ. `tie left counts`: that many are best, with the same counts. Each holds in no other case.
 -- Assumes nothing.
-use Prim.Native.Nat.{ℕ, suc, _≤_, _<_}
+use Prim.Native.Nat.{ℕ, suc, _-_, _≤_, _<_}
 use native.Mathlib.Decide.{ℕ-discrete}
 use native.Mathlib.Omega.{arith}
 use mathlib.Core.Path.{_≡_, refl, sym, _∙_, ap, subst}
@@ -40,8 +40,8 @@ module _ (o : Order) where
   betters⇔lowest p q =
       let a : List ℕ = undetectedCounts o p in
       let b : List ℕ = undetectedCounts o q in
-      let n : length a ≡ o .d = length-undetectedCounts o p in
-      (λ t. subst (λ d. LowestLess d a b) n (lowest-of-fewer a b t), λ l. fewer-of-lowest a b (subst (λ d. LowestLess d a b) (sym n) l))
+      let n : length a ≡ o .d - 1 = length-undetectedCounts o p in
+      (λ t. subst (λ k. LowestLess k a b) n (lowest-of-fewer a b t), λ l. fewer-of-lowest a b (subst (λ k. LowestLess k a b) (sym n) l))
 
   -- ---- what is told of the list of those left
 
@@ -127,7 +127,7 @@ module _ (o : Order) where
           from c =
               best-of-same o (first .polynomial) q (first .member) (in-candidates (o .m) positive q (c .0)) (first .counted ∙ sym (c .1))
 
-      shared-others : (q : ℕ) → IsCandidate (o .m) q → undetectedCounts o q ≢ counts → LowestLess (o .d) counts (undetectedCounts o q)
+      shared-others : (q : ℕ) → IsCandidate (o .m) q → undetectedCounts o q ≢ counts → LowestLess (o .d - 1) counts (undetectedCounts o q)
       shared-others q c differs =
           ⊎-elim (λ same. absurd (differs (sym same ∙ first .counted)))
           (λ t. rw (first .counted) at (betters⇔lowest (first .polynomial) q .0 t))

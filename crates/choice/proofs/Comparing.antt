@@ -20,67 +20,67 @@ use Rattle.choice.proofs.Weighed.{Agree, agree-all, laid-itself, laid-a
 
 -- the best counts of the first k candidates over a table
 abbrev pub bestOf : ℕ → List ℕ → List ℕ → ℕ → ℕ → List ℕ
-bestOf m table plain d k = leader (countsOf m (dividedCounts m table plain d)) k
+bestOf m table plain entries k = leader (countsOf m (dividedCounts m table plain entries)) k
 
 -- the first k candidates have been compared: the best counts stand in the undetected list, and the flags tell who has them
-pub record Met (m d n : ℕ) (table plain before after : List ℕ) (alive : List Bool) (k : ℕ) : Type 0 where
+pub record Met (m entries n : ℕ) (table plain before after : List ℕ) (alive : List Bool) (k : ℕ) : Type 0 where
   pub begun : 1 ≤ k
   pub within : k ≤ n
-  pub listed : after ≡ laid (bestOf m table plain d k) before
-  pub flags : Alive (countsOf m (dividedCounts m table plain d)) k alive
+  pub listed : after ≡ laid (bestOf m table plain entries k) before
+  pub flags : Alive (countsOf m (dividedCounts m table plain entries)) k alive
 
 -- of values that are the same
-pub met-same : {m d n : ℕ} {table plain before after after′ : List ℕ} {alive alive′ : List Bool} {k k′ : ℕ}
+pub met-same : {m entries n : ℕ} {table plain before after after′ : List ℕ} {alive alive′ : List Bool} {k k′ : ℕ}
     → after′ ≡ after → alive′ ≡ alive → k′ ≡ k
-    → Met m d n table plain before after alive k → Met m d n table plain before after′ alive′ k′
+    → Met m entries n table plain before after alive k → Met m entries n table plain before after′ alive′ k′
 met-same ea ef ek met = rw (ea, ef, ek) met
 
-module _ {bits d m n : ℕ} {table plain before : List ℕ} (asked : ToCompare bits d m n table plain before) where
+module _ {bits entries m n : ℕ} {table plain before : List ℕ} (asked : ToCompare bits entries m n table plain before) where
   -- the counts of p, those of candidate k, and the best of the first k
   abbrev counts : ℕ → List ℕ
-  counts p = dividedCounts m table plain d p
+  counts p = dividedCounts m table plain entries p
 
   abbrev mine : ℕ → List ℕ
-  mine k = countsOf m (dividedCounts m table plain d) k
+  mine k = countsOf m (dividedCounts m table plain entries) k
 
   abbrev best : ℕ → List ℕ
-  best k = bestOf m table plain d k
+  best k = bestOf m table plain entries k
 
   abbrev small : m ≤ 12
   small = asked .choose .degree .at-most-12
 
-  abbrev room : d ≤ length before
+  abbrev room : entries ≤ length before
   room = asked .choose .counts
 
-  counts-length : (p : ℕ) → length (counts p) ≡ d
-  counts-length p = length-dividedCounts m p table plain d
+  counts-length : (p : ℕ) → length (counts p) ≡ entries
+  counts-length p = length-dividedCounts m p table plain entries
 
-  sized : (k : ℕ) → length (mine k) ≡ d
+  sized : (k : ℕ) → length (mine k) ≡ entries
   sized k = counts-length (2 ^ m + 2 * k + 1)
 
-  pub best-length : (k : ℕ) → length (best k) ≡ d
-  best-length k = leader-length mine d sized k
+  pub best-length : (k : ℕ) → length (best k) ≡ entries
+  best-length k = leader-length mine entries sized k
 
   -- what holds after the first k
   abbrev After : List ℕ → List Bool → ℕ → Type 0
-  After after alive k = Met m d n table plain before after alive k
+  After after alive k = Met m entries n table plain before after alive k
 
   -- the best counts are read from the undetected list
-  pub met-limit : {k : ℕ} {after : List ℕ} {alive : List Bool} → After after alive k → (w : ℕ) → w < d → getD after w 0 ≡ getD (best k) w 0
-  met-limit {k} met w h = ap (λ (l : List ℕ). getD l w 0) (met .listed) ∙ laid-at d (best k) before (best-length k) room w h
+  pub met-limit : {k : ℕ} {after : List ℕ} {alive : List Bool} → After after alive k → (w : ℕ) → w < entries → getD after w 0 ≡ getD (best k) w 0
+  met-limit {k} met w h = ap (λ (l : List ℕ). getD l w 0) (met .listed) ∙ laid-at entries (best k) before (best-length k) room w h
 
   pub met-length : {k : ℕ} {after : List ℕ} {alive : List Bool} → After after alive k → length after ≡ length before
-  met-length {k} met = ap length (met .listed) ∙ length-laid d (best k) before (best-length k) room
+  met-length {k} met = ap length (met .listed) ∙ length-laid entries (best k) before (best-length k) room
 
   pub met-begin : After before (replicate 2048 true) 1
   met-begin =
       let zero : 2 ^ m + 1 ≡ 2 ^ m + 2 * 0 + 1 = omega arith in
-      let first : take d before ≡ best 1 = asked .first-counted ∙ ap counts zero ∙ sym (leader-first mine d sized) in
+      let first : take entries before ≡ best 1 = asked .first-counted ∙ ap counts zero ∙ sym (leader-first mine entries sized) in
       record {
         begun = omega arith;
         within = omega (arith, asked .all, one-le-pow (m - 1) 2 (omega arith));
-        listed = laid-itself d (best 1) before (best-length 1) first;
-        flags = alive-begin mine d sized;
+        listed = laid-itself entries (best 1) before (best-length 1) first;
+        flags = alive-begin mine entries sized;
       }
 
   -- candidate k is met
@@ -97,12 +97,12 @@ module _ {bits d m n : ℕ} {table plain before : List ℕ} (asked : ToCompare b
         record {
           begun = omega arith;
           within = omega arith;
-          listed = met .listed ∙ ap (λ (a : List ℕ). laid a before) (sym (leader-worse mine d sized k u));
-          flags = alive-worse mine d sized k alive inside (met .flags) u;
+          listed = met .listed ∙ ap (λ (a : List ℕ). laid a before) (sym (leader-worse mine entries sized k u));
+          flags = alive-worse mine entries sized k alive inside (met .flags) u;
         }
 
-    pub met-better : T (fewer (counts p) (best k)) → (w : ℕ) → w ≤ d → Agree w (counts p) (best k)
-        → {alive′ : List Bool} → alive′ ≡ dropped k alive → {after′ : List ℕ} → after′ ≡ countedFrom m p table plain w d after
+    pub met-better : T (fewer (counts p) (best k)) → (w : ℕ) → w ≤ entries → Agree w (counts p) (best k)
+        → {alive′ : List Bool} → alive′ ≡ dropped k alive → {after′ : List ℕ} → after′ ≡ countedFrom m p table plain w entries after
         → After after′ alive′ (k + 1)
     met-better t w h agree ea el =
         let u = subst (λ (a : List ℕ). T (fewer a (best k))) same t in
@@ -110,26 +110,26 @@ module _ {bits d m n : ℕ} {table plain before : List ℕ} (asked : ToCompare b
           begun = omega arith;
           within = omega arith;
           listed =
-              el ∙ ap (countedFrom m p table plain w d) (met .listed)
-              ∙ laid-recounted d (best k) before (best-length k) room m p table plain w h agree
-              ∙ ap (λ (a : List ℕ). laid a before) (same ∙ sym (leader-better mine d sized k u));
-          flags = subst (Alive mine (k + 1)) (sym ea) (alive-better mine d sized k alive inside (met .flags) u);
+              el ∙ ap (countedFrom m p table plain w entries) (met .listed)
+              ∙ laid-recounted entries (best k) before (best-length k) room m p table plain w h agree
+              ∙ ap (λ (a : List ℕ). laid a before) (same ∙ sym (leader-better mine entries sized k u));
+          flags = subst (Alive mine (k + 1)) (sym ea) (alive-better mine entries sized k alive inside (met .flags) u);
         }
 
-    pub met-level : Agree d (counts p) (best k) → After after alive (k + 1)
+    pub met-level : Agree entries (counts p) (best k) → After after alive (k + 1)
     met-level agree =
-        let e : mine k ≡ best k = sym same ∙ agree-all d (counts p) (best k) (counts-length p) (best-length k) agree in
+        let e : mine k ≡ best k = sym same ∙ agree-all entries (counts p) (best k) (counts-length p) (best-length k) agree in
         record {
           begun = omega arith;
           within = omega arith;
-          listed = met .listed ∙ ap (λ (a : List ℕ). laid a before) (sym (leader-level mine d sized k e));
-          flags = alive-level mine d sized k alive inside (met .flags) e;
+          listed = met .listed ∙ ap (λ (a : List ℕ). laid a before) (sym (leader-level mine entries sized k e));
+          flags = alive-level mine entries sized k alive inside (met .flags) e;
         }
 
-  pub met-end : {k : ℕ} {after : List ℕ} {alive : List Bool} → n ≤ k → After after alive k → LeftAlive m d table plain before after alive
+  pub met-end : {k : ℕ} {after : List ℕ} {alive : List Bool} → n ≤ k → After after alive k → LeftAlive m entries table plain before after alive
   unfolding leftOver
   met-end {k} {after} {alive} h met =
       let e : k ≡ 2 ^ (m - 1) = omega (arith, asked .all) in (
-        alive-end m counts d counts-length small alive (subst (λ (i : ℕ). Alive mine i alive) e (met .flags)),
-        met .listed ∙ ap (λ (a : List ℕ). laid a before) (ap (leader mine) e ∙ sym (best-counts m counts d counts-length)),
+        alive-end m counts entries counts-length small alive (subst (λ (i : ℕ). Alive mine i alive) e (met .flags)),
+        met .listed ∙ ap (λ (a : List ℕ). laid a before) (ap (leader mine) e ∙ sym (best-counts m counts entries counts-length)),
       )

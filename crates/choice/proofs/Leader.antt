@@ -44,7 +44,7 @@ below-suc P k below here j h = ⊎-elim (λ e. subst P (sym e) here) (below j) (
 pub not-itself : (a : List ℕ) → T (not (fewer a a))
 not-itself a = not-T (fewer a a) (fewer-irreflexive a)
 
-module _ (f : ℕ → List ℕ) (d : ℕ) (sized : (j : ℕ) → length (f j) ≡ d) where
+module _ (f : ℕ → List ℕ) (entries : ℕ) (sized : (j : ℕ) → length (f j) ≡ entries) where
   -- ---- one more is met
 
   pub leader-first : leader f 1 ≡ f 0
@@ -83,12 +83,12 @@ module _ (f : ℕ → List ℕ) (d : ℕ) (sized : (j : ℕ) → length (f j) �
   leader-member zero h = absurd (omega arith)
   leader-member (suc k) h = leader-among k
 
-  pub leader-length : (k : ℕ) → length (leader f k) ≡ d
+  pub leader-length : (k : ℕ) → length (leader f k) ≡ entries
   unfolding leader
   leader-length zero = sized 0
   leader-length (suc k) = either (fewer (f k) (leader f k)) (leader-length k)
     where
-      either : (b : Bool) → length (leader f k) ≡ d → length (cond b (f k) (leader f k)) ≡ d
+      either : (b : Bool) → length (leader f k) ≡ entries → length (cond b (f k) (leader f k)) ≡ entries
       either true e = sized k
       either false e = e
 

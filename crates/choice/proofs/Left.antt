@@ -1,7 +1,7 @@
 -- Over counts that are the undetected counts, those left are the best of the definition, and what `choose` leaves is the choice: one where one
 -- is left, a tie otherwise.
 -- Assumes nothing.
-use Prim.Native.Nat.{ℕ}
+use Prim.Native.Nat.{ℕ, _-_}
 use native.Mathlib.Omega.{arith}
 use mathlib.Core.Path.{_≡_, refl, sym, ap, ap₂, _∙_, fun-ext}
 use mathlib.Core.Logic.{_≢_}
@@ -42,14 +42,14 @@ module _ (o : Order) where
 
   -- the counts over the table are the undetected counts
   abbrev Counted : List ℕ → List ℕ → Type 0
-  Counted table plain = (p : ℕ) → dividedCounts (o .m) table plain (o .d) p ≡ undetectedCounts o p
+  Counted table plain = (p : ℕ) → dividedCounts (o .m) table plain (o .d - 1) p ≡ undetectedCounts o p
 
-  pub left-is-best : (table plain : List ℕ) → Counted table plain → leftOver (o .m) table plain (o .d) ≡ best o
+  pub left-is-best : (table plain : List ℕ) → Counted table plain → leftOver (o .m) table plain (o .d - 1) ≡ best o
   unfolding leftOver bestBy unbettered best betters
   left-is-best table plain counted = ap (λ (counts : ℕ → List ℕ). bestBy counts (candidates (o .m))) (fun-ext counted)
 
   module _ {table plain before after : List ℕ} {r : Outcome} (counted : Counted table plain)
-      (chose : Chose (o .m) (o .d) table plain before after r) where
+      (chose : Chose (o .m) (o .d - 1) table plain before after r) where
     left-best : r .left ≡ length (best o)
     left-best = chose .how-many ∙ ap length (left-is-best table plain counted)
 
@@ -59,7 +59,7 @@ module _ (o : Order) where
     -- the undetected list
     pub chosen-counts : after ≡ laid (undetectedCounts o (r .polynomial)) before
     chosen-counts =
-        let same = counted (firstOf (leftOver (o .m) table plain (o .d))) ∙ ap (undetectedCounts o) (sym (chose .first)) in
+        let same = counted (firstOf (leftOver (o .m) table plain (o .d - 1))) ∙ ap (undetectedCounts o) (sym (chose .first)) in
         chose .listed ∙ ap (λ (counts : List ℕ). laid counts before) same
 
     pub chosen-one : r .left ≡ 1 → choice o ≡ one (r .polynomial) (undetectedCounts o (r .polynomial))

@@ -2,6 +2,7 @@ pub mod Fewer
 pub mod Candidates
 pub mod Best
 pub mod Chosen
+pub mod ByWeight
 mod Flags
 mod Leader
 mod Remaining

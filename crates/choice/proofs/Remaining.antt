@@ -53,20 +53,20 @@ module _ (m : ℕ) (counts : ℕ → List ℕ) where
       let h = candidate-number m q member in
       subst (λ (x : ℕ). T (not (fewer (counts x) (counts p)))) (h .named) (none (h .k) (h .below)))
 
-  module _ (d : ℕ) (sized : (p : ℕ) → length (counts p) ≡ d) where
+  module _ (entries : ℕ) (sized : (p : ℕ) → length (counts p) ≡ entries) where
     -- the best of all candidates
     abbrev last : List ℕ
     last = leader countsOf (2 ^ (m - 1))
 
-    sized-of : (j : ℕ) → length (countsOf j) ≡ d
+    sized-of : (j : ℕ) → length (countsOf j) ≡ entries
     sized-of j = sized (2 ^ m + 2 * j + 1)
 
     last-least : (j : ℕ) → j < 2 ^ (m - 1) → T (not (fewer (countsOf j) last))
-    last-least = leader-least countsOf d sized-of (2 ^ (m - 1))
+    last-least = leader-least countsOf entries sized-of (2 ^ (m - 1))
 
     -- one of them has it
     last-member : Among countsOf (2 ^ (m - 1)) last
-    last-member = leader-member countsOf d sized-of (2 ^ (m - 1)) (one-le-pow (m - 1) 2 (omega arith))
+    last-member = leader-member countsOf entries sized-of (2 ^ (m - 1)) (one-le-pow (m - 1) 2 (omega arith))
 
     module _ (j : ℕ) (h : j < 2 ^ (m - 1)) where
       level-unbettered : last ≡ countsOf j → T (left (2 ^ m + 2 * j + 1))
@@ -81,7 +81,7 @@ module _ (m : ℕ) (counts : ℕ → List ℕ) where
 
       -- level with the best, or worse
       level-or-bettered : (last ≡ countsOf j) ⊎ T (fewer last (countsOf j))
-      level-or-bettered = level-or-worse countsOf d sized-of (2 ^ (m - 1)) j h
+      level-or-bettered = level-or-worse countsOf entries sized-of (2 ^ (m - 1)) j h
 
       level-flag : not (fewer last (countsOf j)) ≡ left (2 ^ m + 2 * j + 1)
       level-flag =

@@ -1,4 +1,5 @@
-// The choice: every candidate is compared with the best so far, weight by weight, and drops out at the first weight where another counts fewer.
+// The choice: every candidate is compared with the best so far, weight by weight, and drops out at the first weight where another counts fewer. Weights go by
+// their entries in the lists of counts: entry w is of weight w + 1.
 // What is `pub` here is for the crate above; docs/DECISIONS.md lists it as internal.
 ghost use mathlib.Core.Path.{_≡_};
 ghost use Prim.Native.Nat.{_+_, _*_, _^_, _≤_};
@@ -44,11 +45,11 @@ fn compare(
     undetected: &mut [u64],
     bits: u64,
     m: u64,
-    d: usize,
+    entries: usize,
     n: usize,
 ) -> [bool; 2048]
-    requires { ⌜ ToCompare bits d m n (now table) (now plain) (now undetected) ⌝ }
-    ensures { λ r. ⌜ LeftAlive m d (now (table .entry)) (now (plain .entry)) (now (undetected .entry)) (now (undetected .exit)) r ⌝ }
+    requires { ⌜ ToCompare bits entries m n (now table) (now plain) (now undetected) ⌝ }
+    ensures { λ r. ⌜ LeftAlive m entries (now (table .entry)) (now (plain .entry)) (now (undetected .entry)) (now (undetected .exit)) r ⌝ }
 {
     let mut alive = [true; 2048];
     let mut k = 1;
@@ -57,7 +58,7 @@ fn compare(
         let rows = check_table(bits, m, p);
         let mut at = 0;
         let mut w = 0;
-        while w < d {
+        while w < entries {
             let next = at + plain[w] as usize;
             let best = undetected[w];
             let found = count_up_to(table, at, next, &rows, m, best);
@@ -68,7 +69,7 @@ fn compare(
             }
             if found < best {
                 alive = drop_before(alive, k);
-                count_from(table, plain, undetected, bits, m, p, w, d, at);
+                count_from(table, plain, undetected, bits, m, p, w, entries, at);
                 k += 1;
                 continue 'candidates;
             }
@@ -111,21 +112,31 @@ fn first_alive(alive: &[bool; 2048], n: usize) -> usize
     0
 }
 
-// The best of all candidates of degree m, by the words of a path table and the plain counts of d weights; its counts are left in the undetected list.
+// The best of all candidates of degree m, by the words of a path table and so many entries of the plain counts; its counts are left in the undetected list.
 pub fn choose(
     table: &[u64],
     plain: &[u64],
     undetected: &mut [u64],
     bits: u64,
     m: u64,
-    d: usize,
+    entries: usize,
 ) -> Outcome
-    requires { ⌜ ToChoose bits d m (now table) (now plain) (now undetected) ⌝ }
-    ensures { λ r. ⌜ Chose m d (now (table .entry)) (now (plain .entry)) (now (undetected .entry)) (now (undetected .exit)) r ⌝ }
+    requires { ⌜ ToChoose bits entries m (now table) (now plain) (now undetected) ⌝ }
+    ensures { λ r. ⌜ Chose m entries (now (table .entry)) (now (plain .entry)) (now (undetected .entry)) (now (undetected .exit)) r ⌝ }
 {
     let n = power(m - 1) as usize;
-    count_from(table, plain, undetected, bits, m, candidate(m, 0), 0, d, 0);
-    let alive = compare(table, plain, undetected, bits, m, d, n);
+    count_from(
+        table,
+        plain,
+        undetected,
+        bits,
+        m,
+        candidate(m, 0),
+        0,
+        entries,
+        0,
+    );
+    let alive = compare(table, plain, undetected, bits, m, entries, n);
     let left = count_alive(&alive, n);
     let first = first_alive(&alive, n);
     Outcome {

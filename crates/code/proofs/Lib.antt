@@ -13,3 +13,4 @@ pub mod Windows
 pub mod Weights
 pub mod Sent
 pub mod Calls
+pub mod NoZero

@@ -1,27 +1,31 @@
--- Where the part of one weight stands, by what `part` and `paths_before` say.
+-- Where the part of one weight stands, by what `part` and `paths_to` say.
 -- Assumes nothing.
 use mathlib.Core.Path.{_≡_, refl, sym, ap, ap₂, _∙_, subst}
 use mathlib.Core.Bool.{Bool, true, false, cond}
 use mathlib.Core.List.{List, []}
-use Prim.Native.Nat.{ℕ, _+_, _*_, _/_, _≤_, _<_}
+use Prim.Native.Nat.{ℕ, _+_, _-_, _*_, _/_, _≤_}
 use native.Mathlib.Omega.{arith}
-use lib.Dec.{leb, ltb}
-use lib.ListN.{length, getD, take, drop, length-drop}
+use lib.Dec.{leb}
+use lib.ListN.{length, take, drop, length-drop}
 use lib.Seq.{length-take-le}
-use borrow.Author.Tests.{leb-true, ltb-true, le-leb}
+use borrow.Author.Tests.{leb-true, le-leb}
 use Rattle.lists.proofs.Tests.{both}
-use Rattle.paths.specs.Part.{pathsBefore, partFits, partOf, partNumber}
-use Rattle.paths.specs.Model.Part.{beforeOr}
+use Rattle.order.specs.Questions.{from-to}
+use Rattle.order.specs.Order.{ofWeight}
+use Rattle.order.proofs.Answers.{range}
+use Rattle.paths.specs.Part.{pathsTo, partFits, partOf, partNumber}
+use Rattle.paths.specs.Model.Part.{sumOr}
+use Rattle.paths.proofs.Parts.{to-weight}
 use Rattle.answers.specs.declared.PartAnswer.{PartAnswer}
 use Rattle.answers.specs.Answers.{partAnswer}
 
 module _ (counts : List ℕ) (w : ℕ) (table : List ℕ) where
-  by-test : (b : Bool) → partFits counts w table ≡ b → (partAnswer counts w table ≡ cond b record { refusal = 0; start = 2 * pathsBefore counts w; numbers = 2 * getD counts w 0 } record { refusal = 10; start = 0; numbers = 0 })
-      × ((partNumber counts w table ≡ cond b 0 10) × (partOf counts w table ≡ cond b (take (2 * getD counts w 0) (drop (2 * pathsBefore counts w) table)) []))
+  by-test : (b : Bool) → partFits counts w table ≡ b → (partAnswer counts w table ≡ cond b record { refusal = 0; start = 2 * pathsTo counts (w - 1); numbers = 2 * ofWeight w counts } record { refusal = 10; start = 0; numbers = 0 })
+      × ((partNumber counts w table ≡ cond b 0 10) × (partOf counts w table ≡ cond b (take (2 * ofWeight w counts) (drop (2 * pathsTo counts (w - 1)) table)) []))
   unfolding partAnswer partNumber partOf
   by-test b e = (
-    ap (λ (x : Bool). cond {A = PartAnswer} x record { refusal = 0; start = 2 * pathsBefore counts w; numbers = 2 * getD counts w 0 } record { refusal = 10; start = 0; numbers = 0 }) e,
-    (ap (λ (x : Bool). cond {A = ℕ} x 0 10) e, ap (λ (x : Bool). cond x (take (2 * getD counts w 0) (drop (2 * pathsBefore counts w) table)) []) e),
+    ap (λ (x : Bool). cond {A = PartAnswer} x record { refusal = 0; start = 2 * pathsTo counts (w - 1); numbers = 2 * ofWeight w counts } record { refusal = 10; start = 0; numbers = 0 }) e,
+    (ap (λ (x : Bool). cond {A = ℕ} x 0 10) e, ap (λ (x : Bool). cond x (take (2 * ofWeight w counts) (drop (2 * pathsTo counts (w - 1)) table)) []) e),
   )
 
   -- refused
@@ -41,22 +45,24 @@ module _ (counts : List ℕ) (w : ℕ) (table : List ℕ) where
         by false f = absurd (let n : partNumber counts w table ≡ 10 = by-test false f .1 .0 in omega arith)
 
     -- the weight has a count, and its part ends within the table
-    pub part-bounds : (w < length counts) × (2 * (pathsBefore counts w + getD counts w 0) ≤ length table)
+    pub part-bounds : (1 ≤ w) × (w ≤ length counts) × (2 * (pathsTo counts (w - 1) + ofWeight w counts) ≤ length table)
     unfolding partFits
     part-bounds =
-        let h = both (ltb w (length counts)) (leb (2 * (pathsBefore counts w + getD counts w 0)) (length table)) fits-is in
-        (ltb-true w (length counts) (h .0), leb-true (2 * (pathsBefore counts w + getD counts w 0)) (length table) (h .1))
+        let h = both (from-to 1 (length counts) w) (leb (2 * pathsTo counts w) (length table)) fits-is in
+        let between = range 1 (length counts) w (h .0) in
+        let ends = leb-true (2 * pathsTo counts w) (length table) (h .1) in
+        (between .0, between .1, omega (arith, ends, to-weight counts w (between .0)))
 
-    pub before-is : (b : ℕ) → b ≡ beforeOr counts w (length table / 2) → b ≡ pathsBefore counts w
-    unfolding beforeOr
+    pub before-is : (b : ℕ) → b ≡ sumOr counts (w - 1) (length table / 2) → b ≡ pathsTo counts (w - 1)
+    unfolding sumOr
     before-is b q =
-        let h = part-bounds .1 in
-        q ∙ ap (λ (x : Bool). cond x (pathsBefore counts w) (length table / 2 + 1)) (le-leb (pathsBefore counts w) (length table / 2) (omega arith))
+        let h = part-bounds .2 in
+        q ∙ ap (λ (x : Bool). cond x (pathsTo counts (w - 1)) (length table / 2 + 1)) (le-leb (pathsTo counts (w - 1)) (length table / 2) (omega arith))
 
-    pub a-part : (words : List ℕ) (b : ℕ) → words ≡ partOf counts w table → b ≡ beforeOr counts w (length table / 2)
+    pub a-part : (words : List ℕ) (b : ℕ) → words ≡ partOf counts w table → b ≡ sumOr counts (w - 1) (length table / 2)
         → _≡_ {A = PartAnswer} record { refusal = 0; start = 2 * b; numbers = length words } (partAnswer counts w table)
     a-part words b ew eb =
-        let h = part-bounds .1 in
-        let c : ℕ = getD counts w 0 in
-        let long : length (take (2 * c) (drop (2 * pathsBefore counts w) table)) ≡ 2 * c = length-take-le (2 * c) (drop (2 * pathsBefore counts w) table) (subst (λ (x : ℕ). 2 * c ≤ x) (sym (length-drop (2 * pathsBefore counts w) table)) (omega arith)) in
+        let h = part-bounds .2 in
+        let c : ℕ = ofWeight w counts in
+        let long : length (take (2 * c) (drop (2 * pathsTo counts (w - 1)) table)) ≡ 2 * c = length-take-le (2 * c) (drop (2 * pathsTo counts (w - 1)) table) (subst (λ (x : ℕ). 2 * c ≤ x) (sym (length-drop (2 * pathsTo counts (w - 1)) table)) (omega arith)) in
         ap₂ (λ (x y : ℕ). record { refusal = 0; start = 2 * x; numbers = y }) (before-is b eb) (ap length (ew ∙ by-test true fits-is .1 .1) ∙ long) ∙ sym (by-test true fits-is .0)

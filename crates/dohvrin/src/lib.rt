@@ -38,7 +38,7 @@ use listing::list;
 use order::record::OrderRecord;
 use order::record::read_order;
 use paths::part;
-use paths::paths_before;
+use paths::paths_to;
 use poly::word::make;
 use quote::quote;
 use search::count;
@@ -185,7 +185,7 @@ pub extern "C" fn dohvrin_count(
     listed(count(order, polynomial, events, paths, plain, undetected, work))
 }
 
-// The words of one weight in a path table.
+// The words of one weight, from 1 on, in a path table.
 #[no_mangle]
 pub extern "C" fn dohvrin_part(table: &[u64], counts: &[u64], w: u64) -> PartAnswer
     ensures { λ r. ⌜ r ≡ partAnswer (now (counts .entry)) w (now (table .entry)) ⌝ }
@@ -195,7 +195,7 @@ pub extern "C" fn dohvrin_part(table: &[u64], counts: &[u64], w: u64) -> PartAns
     if refusal != 0 {
         return part_answer(10, 0, 0);
     }
-    let before = paths_before(counts, w as usize, (table.len() / 2) as u64);
+    let before = paths_to(counts, w as usize - 1, (table.len() / 2) as u64);
     part_answer(0, 2 * before, words.len() as u64)
 }
 

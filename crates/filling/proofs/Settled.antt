@@ -25,14 +25,14 @@ module _ (paths counts : List ℕ) (at next w : ℕ) where
   unfolding settledPaths settledCounts
   settled-full h = (
     sym (ap (λ (b : Bool). cond b (sortedPart paths at next) paths) (lt-leb next (length paths / 2) h)),
-    sym (ap (λ (b : Bool). cond b (set counts w (next - at)) counts) (lt-leb next (length paths / 2) h)),
+    sym (ap (λ (b : Bool). cond b (set counts (w - 1) (next - at)) counts) (lt-leb next (length paths / 2) h)),
   )
 
-  pub settled-sorted : next ≤ length paths / 2 → (sortedPart paths at next ≡ settledPaths paths at next) × (set counts w (next - at) ≡ settledCounts (length paths) counts at next w)
+  pub settled-sorted : next ≤ length paths / 2 → (sortedPart paths at next ≡ settledPaths paths at next) × (set counts (w - 1) (next - at) ≡ settledCounts (length paths) counts at next w)
   unfolding settledPaths settledCounts
   settled-sorted h = (
     sym (ap (λ (b : Bool). cond b (sortedPart paths at next) paths) (le-leb next (length paths / 2) h)),
-    sym (ap (λ (b : Bool). cond b (set counts w (next - at)) counts) (le-leb next (length paths / 2) h)),
+    sym (ap (λ (b : Bool). cond b (set counts (w - 1) (next - at)) counts) (le-leb next (length paths / 2) h)),
   )
 
 -- the weight after w is a later one, and at most d

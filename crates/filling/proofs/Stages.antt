@@ -23,7 +23,7 @@ pub record Ready (o : Order) (np nc nw : ℕ) : Type 0 where
   pub ok : Ordered o
   pub table : List Event
   pub from : TableFor o table
-  pub enough : o .d ≤ nc
+  pub enough : o .d - 1 ≤ nc
   pub wide : areaSize ≤ nw
   pub small : o .d < 2 ^ 64
   pub room : np < 2 ^ 64
@@ -60,9 +60,9 @@ module _ {o : Order} {np nc nw : ℕ} (b : Ready o np nc nw) where
   pub noted : (n : ℕ) → n ≡ length (events (b .from .longer)) → Noted (b .table) 0 n
   noted n e = S.noted-all o (b .ok) (b .table) (b .from) np nc nw (b .enough) (b .wide) n e
 
-  pub begun : (n : ℕ) (us vs xs ls ms : List ℕ) → n ≡ length (events (b .from .longer)) → us ≡ replicate nw 0 → vs ≡ surveyed (b .table) (n - 0) 0 us → xs ≡ indexed (stepsOf o) vs → length xs ≡ nw → ls ≡ replicate np 0 → ms ≡ replicate nc 0 → Stands 0 0 ls ms xs
+  pub begun : (n : ℕ) (us vs xs ls ms : List ℕ) → n ≡ length (events (b .from .longer)) → us ≡ replicate nw 0 → vs ≡ surveyed (b .table) (n - 0) 0 us → xs ≡ indexed (stepsOf o) vs → length xs ≡ nw → ls ≡ replicate np 0 → ms ≡ replicate nc 0 → Stands 1 0 ls ms xs
   begun n us vs xs ls ms e zeros is-vs is-xs kept el em =
-      subst (λ (l : List ℕ). Stands 0 0 l ms xs) (sym el) (subst (λ (m : List ℕ). Stands 0 0 (replicate np 0) m xs) (sym em)
+      subst (λ (l : List ℕ). Stands 1 0 l ms xs) (sym el) (subst (λ (m : List ℕ). Stands 1 0 (replicate np 0) m xs) (sym em)
       (S.standing-first o (b .ok) (b .table) (b .from) np nc nw (b .enough) (b .wide) n us vs xs e zeros is-vs is-xs kept))
 
   module _ (x : Stage) where
@@ -83,7 +83,7 @@ module _ {o : Order} {np nc nw : ℕ} (b : Ready o np nc nw) where
     pub nearer : x .w < o .d → (w′ next : ℕ) → w′ ≡ laterWeight (x .w) (o .d) next (np / 2) → o .d - w′ < o .d - x .w
     nearer light w′ next e = let h = later-bounds (x .w) (o .d) next (np / 2) light .0 in omega (arith, e, h, light)
 
-    pub ends-held : o .d ≤ x .w → x .at ≤ np / 2 → Held o (b .ok .some) (b .ok .longer) (b .ok .few) (b .ok .fit) np nc (b .enough) (o .d) (x .at) (x .ls) (x .ms)
+    pub ends-held : o .d ≤ x .w → x .at ≤ np / 2 → Held o (b .ok .some) (b .ok .longer) (b .ok .few) (b .ok .fit) (b .ok .none) np nc (b .enough) (o .d) (x .at) (x .ls) (x .ms)
     ends-held over = S.ends-held o (b .ok) (b .table) (b .from) np nc nw (b .enough) (b .wide) (x .w) (x .at) (x .ls) (x .ms) (x .us) (x .stands) over
 
     pub ends-full : o .d ≤ x .w → np / 2 < x .at → (x .at ≡ np / 2 + 1) × (np / 2 < length (paths o))

@@ -1,8 +1,8 @@
--- Weight by weight: what stands in the path table and in the counts before weight w (`Held`), what one weight adds, and what has been found once the
+-- Weight by weight, from 1 on: what stands in the path table and in the counts before weight w (`Held`), what one weight adds, and what has been found once the
 -- table is known to be too small.
 -- Assumes nothing.
 use Prim.Native.Nat.{ℕ, zero, suc, _+_, _-_, _*_, _/_, _≤_, _<_}
-use native.Mathlib.Nat.{add-zero, zero-add}
+use native.Mathlib.Nat.{add-zero}
 use native.Mathlib.Omega.{arith}
 use mathlib.Core.Path.{_≡_, refl, sym, ap, ap₂, _∙_, subst}
 use mathlib.Core.Logic.{_⊎_, inl, inr}
@@ -18,6 +18,7 @@ use Rattle.order.specs.Order.{Order}
 use Rattle.paths.specs.Paths.{wordsOfWeight, weights, paths, plainCounts, pathRoom}
 use Rattle.paths.specs.Model.Joining.{chainWords}
 use Rattle.paths.proofs.Listed.{plain-count-is-part}
+use Rattle.paths.proofs.FromOne.{paths-from-1}
 use Rattle.paths.proofs.Words.{chainWords-distinct, of-chainWords, sorted-chainWords, length-chainWords}
 use Rattle.rotations.specs.Model.Put.{puts}
 use Rattle.rotations.proofs.Puts.{length-puts, puts-listed, puts-too-many}
@@ -48,54 +49,55 @@ set-padded size xs x h =
     set-after [] k y = refl
     set-after (z ∷ l) k y = ap (λ (r : List ℕ). z ∷ r) (set-after l k y)
 
-module _ (o : Order) (some : 0 < o .N) (longer : o .v ≤ o .N) (few : o .N ≤ 128) (fit : Fit (o .v) (o .generators)) where
-  -- the words of weight below w, and how many there are of each
+module _ (o : Order) (some : 0 < o .N) (longer : o .v ≤ o .N) (few : o .N ≤ 128) (fit : Fit (o .v) (o .generators)) (none : wordsOfWeight o 0 ≡ []) where
+  -- the words of weights from 1 to below w, and how many there are of each
   unfoldable pub wordsTo : ℕ → List ℕ
-  wordsTo w = flatMap (wordsOfWeight o) (upFrom 0 w)
+  wordsTo w = flatMap (wordsOfWeight o) (upFrom 1 (w - 1))
 
   unfoldable pub countsTo : ℕ → List ℕ
-  countsTo w = map (λ x. length (wordsOfWeight o x)) (upFrom 0 w)
+  countsTo w = map (λ x. length (wordsOfWeight o x)) (upFrom 1 (w - 1))
 
-  next-words : (w : ℕ) → wordsTo (w + 1) ≡ wordsTo w ++ wordsOfWeight o w
-  unfolding wordsTo
-  next-words w =
-      ap (λ (x : ℕ). flatMap (wordsOfWeight o) (upFrom 0 x)) (suc-of w) ∙ ap (flatMap (wordsOfWeight o)) (upFrom-last 0 w)
-      ∙ flatMap-append (wordsOfWeight o) (upFrom 0 w) ((0 + w) ∷ [])
-      ∙ ap (λ (l : List ℕ). flatMap (wordsOfWeight o) (upFrom 0 w) ++ l) (flatMap-one (wordsOfWeight o) (0 + w) ∙ ap (wordsOfWeight o) (zero-add w))
+  -- the weights below w + 1
+  next-weights : (w : ℕ) → 1 ≤ w → upFrom 1 (w + 1 - 1) ≡ upFrom 1 (w - 1) ++ (w ∷ [])
+  next-weights w h = ap (upFrom 1) longer-by-one ∙ upFrom-last 1 (w - 1) ∙ ap (λ (x : ℕ). upFrom 1 (w - 1) ++ (x ∷ [])) itself
     where
-      suc-of : (a : ℕ) → a + 1 ≡ suc a
-      suc-of a = omega arith
+      longer-by-one : w + 1 - 1 ≡ suc (w - 1)
+      longer-by-one = omega arith
 
-  next-counts : (w : ℕ) → countsTo (w + 1) ≡ countsTo w ++ (length (wordsOfWeight o w) ∷ [])
+      itself : 1 + (w - 1) ≡ w
+      itself = omega arith
+
+  next-words : (w : ℕ) → 1 ≤ w → wordsTo (w + 1) ≡ wordsTo w ++ wordsOfWeight o w
+  unfolding wordsTo
+  next-words w h =
+      ap (flatMap (wordsOfWeight o)) (next-weights w h) ∙ flatMap-append (wordsOfWeight o) (upFrom 1 (w - 1)) (w ∷ [])
+      ∙ ap (λ (l : List ℕ). flatMap (wordsOfWeight o) (upFrom 1 (w - 1)) ++ l) (flatMap-one (wordsOfWeight o) w)
+
+  next-counts : (w : ℕ) → 1 ≤ w → countsTo (w + 1) ≡ countsTo w ++ (length (wordsOfWeight o w) ∷ [])
   unfolding countsTo
-  next-counts w =
-      ap (λ (x : ℕ). map part (upFrom 0 x)) (suc-of w) ∙ ap (map part) (upFrom-last 0 w) ∙ map-append part (upFrom 0 w) ((0 + w) ∷ [])
-      ∙ ap (λ (x : ℕ). map part (upFrom 0 w) ++ (part x ∷ [])) (zero-add w)
+  next-counts w h = ap (map part) (next-weights w h) ∙ map-append part (upFrom 1 (w - 1)) (w ∷ [])
     where
       part : ℕ → ℕ
       part x = length (wordsOfWeight o x)
 
-      suc-of : (a : ℕ) → a + 1 ≡ suc a
-      suc-of a = omega arith
-
-  length-countsTo : (w : ℕ) → length (countsTo w) ≡ w
+  length-countsTo : (w : ℕ) → length (countsTo w) ≡ w - 1
   unfolding countsTo
-  length-countsTo w = length-map (upFrom 0 w) (λ x. length (wordsOfWeight o x)) ∙ length-upFrom 0 w
+  length-countsTo w = length-map (upFrom 1 (w - 1)) (λ x. length (wordsOfWeight o x)) ∙ length-upFrom 1 (w - 1)
 
   pub all-words : wordsTo (o .d) ≡ paths o
-  unfolding wordsTo paths weights
-  all-words = refl
+  unfolding wordsTo weights
+  all-words = paths-from-1 o none
 
   pub all-counts : countsTo (o .d) ≡ plainCounts o
   unfolding countsTo weights
   all-counts = sym (plain-count-is-part o)
 
   -- there are no fewer of more weights
-  words-rise : (n w : ℕ) → length (wordsTo w) ≤ length (wordsTo (w + n))
-  words-rise zero w = let e = ap (λ (x : ℕ). length (wordsTo x)) (add-zero w) in omega arith
-  words-rise (suc n) w =
-      let h = words-rise n (w + 1) in
-      let a = ap length (next-words w) ∙ length-append (wordsTo w) (wordsOfWeight o w) in
+  words-rise : (n w : ℕ) → 1 ≤ w → length (wordsTo w) ≤ length (wordsTo (w + n))
+  words-rise zero w g = let e = ap (λ (x : ℕ). length (wordsTo x)) (add-zero w) in omega arith
+  words-rise (suc n) w g =
+      let h = words-rise n (w + 1) (omega arith) in
+      let a = ap length (next-words w g) ∙ length-append (wordsTo w) (wordsOfWeight o w) in
       let e = ap (λ (x : ℕ). length (wordsTo x)) (shift w n) in
       omega arith
     where
@@ -104,8 +106,9 @@ module _ (o : Order) (some : 0 < o .N) (longer : o .v ≤ o .N) (few : o .N ≤ 
 
   -- ---- before weight w
 
-  module _ (size csize : ℕ) (enough : o .d ≤ csize) where
+  module _ (size csize : ℕ) (enough : o .d - 1 ≤ csize) where
     pub record Held (w at : ℕ) (ps cs : List ℕ) : Type 0 where
+      pub begun : 1 ≤ w
       pub fits : length (wordsTo w) ≤ size / 2
       pub place : at ≡ length (wordsTo w)
       pub paths-are : ps ≡ padded size 0 (flatMap halves (wordsTo w))
@@ -119,10 +122,10 @@ module _ (o : Order) (some : 0 < o .N) (longer : o .v ≤ o .N) (few : o .N ≤ 
       pub paths-size : length ps ≡ size
       pub counts-size : length cs ≡ csize
 
-    pub held-first : Held 0 0 (replicate size 0) (replicate csize 0)
+    pub held-first : Held 1 0 (replicate size 0) (replicate csize 0)
     unfolding wordsTo countsTo padded upFrom flatMap
     held-first =
-        record { fits = omega arith; place = refl; paths-are = ap (λ (k : ℕ). replicate k 0) (none-off size); counts-are = ap (λ (k : ℕ). replicate k 0) (none-off csize) }
+        record { begun = omega arith; fits = omega arith; place = refl; paths-are = ap (λ (k : ℕ). replicate k 0) (none-off size); counts-are = ap (λ (k : ℕ). replicate k 0) (none-off csize) }
       where
         none-off : (x : ℕ) → x ≡ x - 0
         none-off x = omega arith
@@ -181,26 +184,26 @@ module _ (o : Order) (some : 0 < o .N) (longer : o .v ≤ o .N) (few : o .N ≤ 
         sorted-table =
             ap₂ (sortedPart ps′) (h .place) next-is ∙ sortedPart-appended ws us (replicate (size - length (flatMap halves (ws ++ us))) 0) ps′ made
             ∙ ap₂ (λ (l : List ℕ) (k : ℕ). flatMap halves ws ++ flatMap halves l ++ replicate (size - k) 0) sorted-is same-length
-            ∙ ap (λ (l : List ℕ). l ++ replicate (size - length (flatMap halves (wordsTo (w + 1)))) 0) (sym (flatMap-append halves ws (wordsOfWeight o w)) ∙ ap (flatMap halves) (sym (next-words w)))
+            ∙ ap (λ (l : List ℕ). l ++ replicate (size - length (flatMap halves (wordsTo (w + 1)))) 0) (sym (flatMap-append halves ws (wordsOfWeight o w)) ∙ ap (flatMap halves) (sym (next-words w (h .begun))))
           where
             same-length : length (flatMap halves (ws ++ us)) ≡ length (flatMap halves (wordsTo (w + 1)))
             same-length =
-                length-halves (ws ++ us) ∙ ap (λ (x : ℕ). 2 * x) (length-append ws us ∙ ap (λ (x : ℕ). length ws + x) same-number ∙ sym (ap length (next-words w) ∙ length-append ws (wordsOfWeight o w)))
+                length-halves (ws ++ us) ∙ ap (λ (x : ℕ). 2 * x) (length-append ws us ∙ ap (λ (x : ℕ). length ws + x) same-number ∙ sym (ap length (next-words w (h .begun)) ∙ length-append ws (wordsOfWeight o w)))
                 ∙ sym (length-halves (wordsTo (w + 1)))
 
-        counted : set cs w (next - at) ≡ padded csize 0 (countsTo (w + 1))
+        counted : set cs (w - 1) (next - at) ≡ padded csize 0 (countsTo (w + 1))
         counted =
-            ap₂ (λ (l : List ℕ) (x : ℕ). set l w x) (h .counts-are) (difference (length ws) (length us) next at next-is (h .place) ∙ same-number)
+            ap₂ (λ (l : List ℕ) (x : ℕ). set l (w - 1) x) (h .counts-are) (difference (length ws) (length us) next at next-is (h .place) ∙ same-number)
             ∙ ap (λ (x : ℕ). set (padded csize 0 (countsTo w)) x (length (wordsOfWeight o w))) (sym (length-countsTo w))
-            ∙ set-padded csize (countsTo w) (length (wordsOfWeight o w)) (omega (arith, length-countsTo w)) ∙ ap (padded csize 0) (sym (next-counts w))
+            ∙ set-padded csize (countsTo w) (length (wordsOfWeight o w)) (omega (arith, length-countsTo w, h .begun)) ∙ ap (padded csize 0) (sym (next-counts w (h .begun)))
           where
             difference : (a b n m : ℕ) → n ≡ a + b → m ≡ a → n - m ≡ b
             difference a b n m e f = omega arith
 
-        held-next : Held (w + 1) next (sortedPart ps′ at next) (set cs w (next - at))
+        held-next : Held (w + 1) next (sortedPart ps′ at next) (set cs (w - 1) (next - at))
         held-next =
-            let n : length (wordsTo (w + 1)) ≡ length ws + length us = ap length (next-words w) ∙ length-append ws (wordsOfWeight o w) ∙ ap (λ (x : ℕ). length ws + x) (sym same-number) in
-            record { fits = omega arith; place = next-is ∙ sym n; paths-are = sorted-table; counts-are = counted }
+            let n : length (wordsTo (w + 1)) ≡ length ws + length us = ap length (next-words w (h .begun)) ∙ length-append ws (wordsOfWeight o w) ∙ ap (λ (x : ℕ). length ws + x) (sym same-number) in
+            record { begun = omega arith; fits = omega arith; place = next-is ∙ sym n; paths-are = sorted-table; counts-are = counted }
 
       -- where it does not
       module _ (room : size / 2 < length ws + length us) where
@@ -210,8 +213,8 @@ module _ (o : Order) (some : 0 < o .N) (longer : o .v ≤ o .N) (few : o .N ≤ 
 
         more-paths : size / 2 < length (paths o)
         more-paths =
-            let n : length (wordsTo (w + 1)) ≡ length ws + length us = ap length (next-words w) ∙ length-append ws (wordsOfWeight o w) ∙ ap (λ (x : ℕ). length ws + x) (sym same-number) in
-            let rise = words-rise (o .d - (w + 1)) (w + 1) in
+            let n : length (wordsTo (w + 1)) ≡ length ws + length us = ap length (next-words w (h .begun)) ∙ length-append ws (wordsOfWeight o w) ∙ ap (λ (x : ℕ). length ws + x) (sym same-number) in
+            let rise = words-rise (o .d - (w + 1)) (w + 1) (omega arith) in
             let rest : w + 1 + (o .d - (w + 1)) ≡ o .d = omega arith in
             let e = ap (λ (x : ℕ). length (wordsTo x)) rest ∙ ap length all-words in
             omega arith
@@ -221,7 +224,8 @@ module _ (o : Order) (some : 0 < o .N) (longer : o .v ≤ o .N) (few : o .N ≤ 
           let s = size-after in
           let c = held-sizes w at ps cs (omega arith) h .1 in
           record {
-            counted = omega arith;
+            some-weight = h .begun;
+            counted = omega (arith, h .begun);
             narrow = λ l. elim (lt-or-ge (size / 2) (length ws + length us)) [
               | inl past ↦ let p = next-past past in absurd (over (length ps′) size next s l p)
               | inr room ↦ narrow room

@@ -57,7 +57,8 @@ fn index(order: OrderRecord, work: &mut [u64])
 
 // ---- weight by weight
 
-// The words that were appended from place `at` to before place `next` are sorted and counted, where the table took them all.
+// The words of weight w, appended from place `at` to before place `next`, are sorted and counted, where the table took them all. The counts begin with
+// weight 1.
 fn settle(order: OrderRecord, paths: &mut [u64], plain: &mut [u64], at: usize, next: usize, w: u64)
     requires { ⌜ Settles (now paths) (now plain) at next w (order .bits) ⌝ }
     ensures { λ _. ⌜ (now (paths .exit) ≡ settledPaths (now (paths .entry)) at next) × (now (plain .exit) ≡ settledCounts (length (now (paths .entry))) (now (plain .entry)) at next w) ⌝ }
@@ -66,7 +67,7 @@ fn settle(order: OrderRecord, paths: &mut [u64], plain: &mut [u64], at: usize, n
         return;
     }
     sort(paths, at, next, order.bits);
-    plain[w as usize] = (next - at) as u64;
+    plain[w as usize - 1] = (next - at) as u64;
 }
 
 // The weight after w; d, where the table is known to be too small.
@@ -80,8 +81,9 @@ fn later_weight(w: u64, d: u64, next: usize, room: usize) -> u64
     w + 1
 }
 
-// The path table and the plain counts filled from a collected event table, weight by weight: how many paths there are, or one more than the table takes,
-// and then both are cleared. The work area ends as zeros. The table may have been collected for longer words: events that do not fit are passed over.
+// The path table and the plain counts filled from a collected event table, weight by weight, from 1 on, since no path weighs 0: how many paths there are,
+// or one more than the table takes, and then both are cleared. The work area ends as zeros. The table may have been collected for longer words: events
+// that do not fit are passed over.
 pub fn fill(
     order: OrderRecord,
     events: &[Event],
@@ -102,7 +104,7 @@ pub fn fill(
     let first = unbegun_first(order);
     let room = paths.len() / 2;
     let mut at = 0;
-    let mut w = 0;
+    let mut w = 1;
     while w < d {
         let next = list_weight(events, work, paths, at, states, first, w);
         settle(order, paths, plain, at, next, w);

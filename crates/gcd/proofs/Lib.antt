@@ -4,3 +4,4 @@ pub mod Euclid
 pub mod Ideal
 pub mod SharedFactor
 pub mod Aligned
+pub mod NoZero

@@ -1,6 +1,6 @@
 -- What the listing of paths answers and leaves, for every input. Its questions are 2, 3, 4, 5, 7, 8, 9, 16 and 10, then 13 and 14.
 -- Assumes nothing.
-use Prim.Native.Nat.{ℕ}
+use Prim.Native.Nat.{ℕ, _-_}
 use mathlib.Core.Bool.{cond}
 use mathlib.Core.List.{List, [], _∷_, _++_}
 use lib.Dec.{leb}
@@ -38,9 +38,9 @@ pub record PathTables : Type 0 where
 abbrev pub pathTables : List Event → List ℕ → List ℕ → List ℕ → PathTables
 pathTables es ps cs us = record { events = es; paths = ps; plain = cs; work = us }
 
--- the questions before 13: of an order, and of the lengths of the plain counts and of the work area
+-- the questions before 13: of an order, and of the lengths of the plain counts, which begin with weight 1, and of the work area
 unfoldable pub listQuestions : Order → (plain size : ℕ) → List Question
-listQuestions o plain size = orderQuestions T.Threshold o ++ (room (o .d) plain ∷ room workSize size ∷ [])
+listQuestions o plain size = orderQuestions T.Threshold o ++ (room (o .d - 1) plain ∷ room workSize size ∷ [])
 
 -- Questions 13 and 14: are there at most as many events, and paths, as their tables take? If not, all that is lent is set to zero.
 -- Events may be collected for a longer order than the one whose paths are listed (document 02, C-13); else both are the same.

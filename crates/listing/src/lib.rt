@@ -14,6 +14,7 @@ use filling::fill;
 use lists::clear_words;
 use order::questions::Takes;
 use order::questions::WORK_SIZE;
+use order::questions::counted_weights;
 use order::record::OrderRecord;
 use order::record::ask_order;
 
@@ -33,7 +34,7 @@ fn ask_list(order: OrderRecord, plain: usize, size: usize) -> u64
     if why != 0 {
         return why;
     }
-    if (plain as u64) < order.d {
+    if (plain as u64) < counted_weights(order.d) {
         return 10;
     }
     if size < WORK_SIZE {

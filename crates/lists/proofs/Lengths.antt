@@ -103,6 +103,15 @@ unfolding upFrom
 upFrom-last n zero = ap (λ (x : ℕ). x ∷ []) (sym (add-zero n))
 upFrom-last n (suc k) = ap (λ (l : List ℕ). n ∷ l) (upFrom-last (suc n) k ∙ ap (λ (x : ℕ). upFrom (suc n) k ++ (x ∷ [])) (suc-add n k ∙ sym (add-suc n k)))
 
+-- a range begun one later
+pub map-upFrom-suc : {A : Type 0} (f : ℕ → A) (n k : ℕ) → map (λ j. f (1 + j)) (upFrom n k) ≡ map f (upFrom (suc n) k)
+unfolding upFrom
+map-upFrom-suc f n zero = refl
+map-upFrom-suc f n (suc k) = ap₂ _∷_ (ap f (one-more n)) (map-upFrom-suc f (suc n) k)
+  where
+    one-more : (x : ℕ) → 1 + x ≡ suc x
+    one-more x = omega arith
+
 -- a range in two
 pub upFrom-append : (x n m : ℕ) → upFrom x (n + m) ≡ upFrom x n ++ upFrom (x + n) m
 unfolding upFrom

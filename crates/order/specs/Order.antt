@@ -30,6 +30,12 @@ pub record Order : Type 0 where
 unfoldable pub withLength : ℕ → Order → Order
 withLength N o = record { version = o .version; v = o .v; N = N; m = o .m; d = o .d; generators = o .generators }
 
+-- ---- lists of counts
+
+-- the count of weight w: a list of counts begins with weight 1, since no nonzero word of an accepted order weighs 0, and has d - 1 entries
+unfoldable pub ofWeight : ℕ → List ℕ → ℕ
+ofWeight w counts = getD counts (w - 1) 0
+
 -- ---- the questions about an order
 
 -- 6 and 7, as far as a call takes them: the code alone, a threshold too, or everything

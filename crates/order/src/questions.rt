@@ -1,7 +1,7 @@
 // Each question as a test, equal to the definition's. The numbers of the questions stand in the calls that ask them.
 ghost use mathlib.Core.Path.{_≡_};
 ghost use mathlib.Core.Bool.{_&&_};
-ghost use Prim.Native.Nat.{_+_, _/_, _^_, _<_};
+ghost use Prim.Native.Nat.{_+_, _-_, _/_, _^_, _<_};
 ghost use lib.Dec.{ltb, eqb};
 ghost use Rattle.lists.specs.Lists.{all, any};
 ghost use Rattle.poly.specs.Poly.{bit};
@@ -25,6 +25,16 @@ pub fn from_to(low: u64, high: u64, x: u64) -> bool
         return false;
     }
     x <= high
+}
+
+// How many weights have counts, below threshold d: those from 1 on.
+pub fn counted_weights(d: u64) -> u64
+    ensures { λ r. ⌜ r ≡ d - 1 ⌝ }
+{
+    if d < 2 {
+        return 0;
+    }
+    d - 1
 }
 
 // Question 6: is the degree from 1 to 12 and below N?

@@ -1,5 +1,6 @@
 pub mod Parts
 pub mod Listed
+pub mod FromOne
 pub mod Chains
 pub mod Joined
 pub mod ChainLoops

@@ -1,22 +1,21 @@
 -- The list of paths is all of them, each once, by weight and number: its members are the nonzero words of N bits of weight below the threshold
 -- (`mem-paths`), and it is the one list in that order that has these members (`paths-unique`). The plain counts are the lengths of its parts.
 -- Assumes nothing.
-use Prim.Native.Nat.{ℕ, _-_, _≤_, _<_, _^_}
-use native.Mathlib.Nat.{zero-add}
+use Prim.Native.Nat.{ℕ, _+_, _-_, _≤_, _<_, _^_}
 use native.Mathlib.Omega.{arith}
 use mathlib.Core.Path.{_≡_, refl, sym, ap, _∙_, subst}
 use mathlib.Core.Logic.{_↔_}
 use mathlib.Core.List.{List, map, List·Memᴰ}
 use lib.Dec.{T, eqb, eqb→eq, eqb-refl}
 use lib.ListN.{length, getD}
-use Rattle.lists.specs.Lists.{count}
+use Rattle.lists.specs.Lists.{upFrom, count}
 use Rattle.lists.proofs.Member.{upFrom-bounds, in-upFrom, of-filter, in-filter, of-flatMap, in-flatMap}
-use Rattle.lists.proofs.Lengths.{total, length-flatMap, getD-map-upFrom, length-map-upFrom}
+use Rattle.lists.proofs.Lengths.{getD-map-upFrom, length-map-upFrom}
 use Rattle.lists.proofs.Sorted.{Sorted, sorted-known, upFrom-sorted, filter-sorted}
 use Rattle.lists.proofs.Keys.{By, ByThen, by-asymmetric, byThen-asymmetric, blocks-sorted}
 use Rattle.code.specs.Weight.{weight}
 use Rattle.order.specs.Order.{Order}
-use Rattle.paths.specs.Paths.{words, wordsOfWeight, weights, paths, plainCounts}
+use Rattle.paths.specs.Paths.{words, wordsOfWeight, paths, weights, plainCounts}
 
 -- u is a nonzero word of N bits that weighs less than d
 pub record IsPath (o : Order) (u : ℕ) : Type 0 where
@@ -55,25 +54,22 @@ module _ (o : Order) where
   pub mem-wordsOfWeight : (w u : ℕ) → List·Memᴰ u (wordsOfWeight o w) ↔ (List·Memᴰ u (words (o .N)) × (weight o u ≡ w))
   mem-wordsOfWeight w u = (of-wordsOfWeight w u, λ h. in-wordsOfWeight w u (h .0) (h .1))
 
-  pub mem-weights : (w : ℕ) → List·Memᴰ w (weights o) ↔ (w < o .d)
-  unfolding weights
-  mem-weights w = (λ m. let b = upFrom-bounds 0 (o .d) m in omega arith, λ h. in-upFrom 0 (o .d) (omega arith) (omega arith))
-
   pub of-paths : (u : ℕ) → List·Memᴰ u (paths o) → IsPath o u
   unfolding paths
   of-paths u m =
-      let b = of-flatMap (wordsOfWeight o) (weights o) m in
-      let light : b .0 < o .d = mem-weights (b .0) .0 (b .1) in
+      let b = of-flatMap (wordsOfWeight o) (upFrom 0 (o .d)) m in
+      let light = upFrom-bounds 0 (o .d) (b .1) .1 in
       let h = of-wordsOfWeight (b .0) u (b .2) in
       let word = mem-words (o .N) u .0 (h .0) in
-      record { nonzero = word .0; fits = word .1; below = subst (λ w. w < o .d) (sym (h .1)) light }
+      record { nonzero = word .0; fits = word .1; below = subst (λ w. w < o .d) (sym (h .1)) (omega arith) }
 
   pub in-paths : (u : ℕ) → IsPath o u → List·Memᴰ u (paths o)
   unfolding paths
   in-paths u h =
       let w : ℕ = weight o u in
       let word : List·Memᴰ u (words (o .N)) = mem-words (o .N) u .1 (h .nonzero, h .fits) in
-      in-flatMap (wordsOfWeight o) (weights o) (mem-weights w .1 (h .below)) (in-wordsOfWeight w u word refl)
+      let light = h .below in
+      in-flatMap (wordsOfWeight o) (upFrom 0 (o .d)) (in-upFrom 0 (o .d) (omega arith) (omega arith)) (in-wordsOfWeight w u word refl)
 
   pub mem-paths : (u : ℕ) → List·Memᴰ u (paths o) ↔ IsPath o u
   mem-paths u = (of-paths u, in-paths u)
@@ -85,9 +81,9 @@ module _ (o : Order) where
   wordsOfWeight-sorted w = filter-sorted _<_ (λ u. eqb (weight o u) w) (words (o .N)) (words-sorted (o .N))
 
   pub paths-sorted : Sorted (Before o) (paths o)
-  unfolding paths weights
+  unfolding paths
   paths-sorted =
-      blocks-sorted (weight o) (By (λ u. u)) (wordsOfWeight o) (λ w u m. of-wordsOfWeight w u m .1) wordsOfWeight-sorted (weights o)
+      blocks-sorted (weight o) (By (λ u. u)) (wordsOfWeight o) (λ w u m. of-wordsOfWeight w u m .1) wordsOfWeight-sorted (upFrom 0 (o .d))
       (upFrom-sorted 0 (o .d))
 
   pub before-asymmetric : (u u′ : ℕ) → Before o u u′ → Before o u′ u → ⊥
@@ -103,16 +99,11 @@ module _ (o : Order) where
   unfolding plainCounts count wordsOfWeight
   plain-count-is-part = refl
 
-  pub length-plainCounts : length (plainCounts o) ≡ o .d
+  pub length-plainCounts : length (plainCounts o) ≡ o .d - 1
   unfolding plainCounts weights
-  length-plainCounts = length-map-upFrom (λ w. count (λ u. eqb (weight o u) w) (words (o .N))) 0 (o .d)
+  length-plainCounts = length-map-upFrom (λ w. count (λ u. eqb (weight o u) w) (words (o .N))) 1 (o .d - 1)
 
-  pub plain-count-at : (w : ℕ) → w < o .d → getD (plainCounts o) w 0 ≡ length (wordsOfWeight o w)
+  -- entry k is of weight k + 1
+  pub plain-count-at : (k : ℕ) → k < o .d - 1 → getD (plainCounts o) k 0 ≡ length (wordsOfWeight o (1 + k))
   unfolding weights
-  plain-count-at w h =
-      let part : ℕ → ℕ = λ x. length (wordsOfWeight o x) in
-      ap (λ l. getD l w 0) plain-count-is-part ∙ getD-map-upFrom part 0 (o .d) w 0 h ∙ ap part (zero-add w)
-
-  pub plain-counts-sum : total (plainCounts o) ≡ length (paths o)
-  unfolding paths
-  plain-counts-sum = ap total plain-count-is-part ∙ sym (length-flatMap (wordsOfWeight o) (weights o))
+  plain-count-at k h = ap (λ l. getD l k 0) plain-count-is-part ∙ getD-map-upFrom (λ w. length (wordsOfWeight o w)) 1 (o .d - 1) k 0 h

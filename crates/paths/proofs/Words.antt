@@ -10,7 +10,7 @@ use mathlib.Core.Logic.{_↔_, _≢_}
 use mathlib.Core.Bool.{Bool, true, false, cond}
 use mathlib.Core.List.{List, [], _∷_, map, flatMap, List·Memᴰ, List·Memᴰ·head, Memᴰ·cast, Memᴰ·map, Memᴰ·of-map}
 use lib.Dec.{T, ltb, ltb→lt, lt→ltb}
-use lib.ListN.{length, getD}
+use lib.ListN.{length}
 use Rattle.lists.specs.Lists.{upFrom}
 use Rattle.lists.proofs.Member.{upFrom-bounds, in-upFrom, of-filter, in-filter, of-flatMap, in-flatMap}
 use Rattle.lists.proofs.Sorted.{Sorted, Within, upFrom-sorted, filter-sorted, sorted-unique}
@@ -24,10 +24,10 @@ use Rattle.code.proofs.Steps.{Fit}
 use Rattle.order.specs.Order.{Order}
 use Rattle.events.specs.Events.{ErrorEvent, eventsOfState}
 use Rattle.events.proofs.OfState.{of-eventsOfState, in-eventsOfState, eventsOfState-distinct}
-use Rattle.paths.specs.Paths.{wordsOfWeight, weights, paths, plainCounts}
+use Rattle.paths.specs.Paths.{wordsOfWeight, paths}
 use Rattle.paths.specs.Chains.{steps, cost, inputNumber, firstLength}
 use Rattle.paths.specs.Model.Joining.{turns, firstOr, unbegunFirst, stateWords, chainWords}
-use Rattle.paths.proofs.Listed.{mem-words, of-wordsOfWeight, in-wordsOfWeight, wordsOfWeight-sorted, mem-weights, plain-count-at}
+use Rattle.paths.proofs.Listed.{mem-words, of-wordsOfWeight, in-wordsOfWeight, wordsOfWeight-sorted}
 use Rattle.paths.proofs.Chains.{chains, of-chains, in-chains, chains-distinct}
 use Rattle.paths.proofs.Joined.{emit, joined-is-chains}
 use Rattle.paths.proofs.Arises.{Arises, arises-state-fits, arises-fits, arises-weight, arises-once-state, arises-once-turn, arises-once-chain, arises-somehow}
@@ -208,15 +208,11 @@ module _ (o : Order) (some : 0 < o .N) (longer : o .v ≤ o .N) where
             distinct-same-length (chainWords o w) (wordsOfWeight o w) chainWords-distinct
             (increasing-distinct (wordsOfWeight o w) (wordsOfWeight-sorted o w)) chainWords-within within-chainWords
 
-        -- the plain count of weight w
-        pub plain-count-chainWords : getD (plainCounts o) w 0 ≡ length (chainWords o w)
-        plain-count-chainWords = plain-count-at o w light ∙ sym length-chainWords
-
   -- weight by weight: parts sorted by number make the list of paths
   pub sorted-parts-are-paths : Fit (o .v) (o .generators) → (part : ℕ → List ℕ)
       → ((w : ℕ) → w < o .d → Sorted _<_ (part w) × Within (part w) (chainWords o w) × Within (chainWords o w) (part w))
-      → flatMap part (weights o) ≡ paths o
+      → flatMap part (upFrom 0 (o .d)) ≡ paths o
   unfolding paths
   sorted-parts-are-paths fit part h =
-      flatMap-cong-on part (wordsOfWeight o) (weights o)
-      (λ w m. let light = mem-weights o w .0 m in let k = h w light in sorted-chainWords w fit light (part w) (k .0) (k .1) (k .2))
+      flatMap-cong-on part (wordsOfWeight o) (upFrom 0 (o .d))
+      (λ w m. let b = upFrom-bounds 0 (o .d) m .1 in let light : w < o .d = omega arith in let k = h w light in sorted-chainWords w fit light (part w) (k .0) (k .1) (k .2))

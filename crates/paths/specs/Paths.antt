@@ -17,15 +17,16 @@ words N = upFrom 1 (2 ^ N - 1)
 unfoldable pub wordsOfWeight : Order → ℕ → List ℕ
 wordsOfWeight o w = filter (λ u. eqb (weight o u) w) (words (o .N))
 
--- the weights below the threshold
-unfoldable pub weights : Order → List ℕ
-weights o = upFrom 0 (o .d)
-
 -- the nonzero words of weight below d, by weight, then number
 unfoldable pub paths : Order → List ℕ
-paths o = flatMap (wordsOfWeight o) (weights o)
+paths o = flatMap (wordsOfWeight o) (upFrom 0 (o .d))
 
--- how many there are of each weight below d
+-- The weights that are counted: from 1 to below the threshold. No nonzero word of an accepted order weighs 0, so the words of these weights are all
+-- paths, in the same order (`paths-from-1`, proofs/FromOne.antt).
+unfoldable pub weights : Order → List ℕ
+weights o = upFrom 1 (o .d - 1)
+
+-- how many paths there are of each
 unfoldable pub plainCounts : Order → List ℕ
 plainCounts o = map (λ w. count (λ u. eqb (weight o u) w) (words (o .N))) (weights o)
 

@@ -10,7 +10,7 @@ use Rattle.code.specs.Links.{terminated, stepsOf, output, eventStates}
 use Rattle.code.specs.Weight.{weightOf, weight}
 use Rattle.code.specs.Trellis.{next, tapped, stepOutput, stepWeight, walkWeight, firstMeets}
 use Rattle.order.specs.Questions.{firstNo, from-to, inRange, hasBit, workSize, shapeQuestions, generatorQuestions}
-use Rattle.order.specs.Order.{be16, readGenerators, readFields, lengthRight, versionRight, countRight, recordQuestions, numberQuestions, orderQuestions, read}
+use Rattle.order.specs.Order.{ofWeight, be16, readGenerators, readFields, lengthRight, versionRight, countRight, recordQuestions, numberQuestions, orderQuestions, read}
 use Rattle.order.specs.Answer.{unless, unlessRefused}
 use Rattle.events.specs.Events.{isListed, eventsOfLength, eventsOfState, events, entry, noEvent, eventTable}
 use Rattle.poly.specs.Word.{halves}
@@ -27,14 +27,13 @@ document-printed : printed (0 ∷ 10 ∷ 1 ∷ 2 ∷ 1 ∷ 4 ∷ 2 ∷ 6 ∷ 0 �
     ≡ 79 ∷ 82 ∷ 68 ∷ 69 ∷ 82 ∷ 32 ∷ 50 ∷ 32 ∷ 49 ∷ 32 ∷ 52 ∷ 32 ∷ 50 ∷ 32 ∷ 54 ∷ 32 ∷ 49 ∷ 32 ∷ 51 ∷ 10
     ∷ 69 ∷ 86 ∷ 69 ∷ 78 ∷ 84 ∷ 83 ∷ 32 ∷ 53 ∷ 10
     ∷ 80 ∷ 65 ∷ 84 ∷ 72 ∷ 83 ∷ 32 ∷ 49 ∷ 51 ∷ 10
-    ∷ 65 ∷ 32 ∷ 48 ∷ 32 ∷ 48 ∷ 32 ∷ 48 ∷ 10
     ∷ 65 ∷ 32 ∷ 49 ∷ 32 ∷ 48 ∷ 32 ∷ 48 ∷ 10
     ∷ 65 ∷ 32 ∷ 50 ∷ 32 ∷ 48 ∷ 32 ∷ 48 ∷ 10
     ∷ 65 ∷ 32 ∷ 51 ∷ 32 ∷ 52 ∷ 32 ∷ 48 ∷ 10
     ∷ 65 ∷ 32 ∷ 52 ∷ 32 ∷ 53 ∷ 32 ∷ 49 ∷ 10
     ∷ 65 ∷ 32 ∷ 53 ∷ 32 ∷ 52 ∷ 32 ∷ 48 ∷ 10
     ∷ 67 ∷ 82 ∷ 67 ∷ 32 ∷ 48 ∷ 120 ∷ 53 ∷ 10 ∷ []
-unfolding flatMap onesIn ones upFrom filter count all any padded cleared bit _⊕_ digitsThrough horner _⊗_ register remainder terminated stepsOf output eventStates weightOf weight next tapped stepOutput stepWeight walkWeight firstMeets firstNo from-to inRange hasBit workSize divides total shareFactor shapeQuestions numberQuestions generatorQuestions orderQuestions unless unlessRefused isListed eventsOfLength eventsOfState events entry noEvent eventTable words wordsOfWeight weights paths plainCounts halves pathTable pathRoom passes undetectedCount undetectedCounts candidates fewer betters best choiceOf choice unlessTooMany clearedSearch filledSearch searchQuestions chosen searched searchCall digit digits numeral decimal octal hexadecimal line wORDER wEVENTS wPATHS wA wCRC orderLine countLine rowText be16 readGenerators readFields lengthRight versionRight countRight recordQuestions read lent printedRow printedSearch printedReading printed
+unfolding flatMap onesIn ones upFrom filter count all any padded cleared bit _⊕_ digitsThrough horner _⊗_ register remainder terminated stepsOf output eventStates weightOf weight next tapped stepOutput stepWeight walkWeight firstMeets firstNo from-to inRange hasBit workSize divides total shareFactor shapeQuestions numberQuestions generatorQuestions orderQuestions unless unlessRefused isListed eventsOfLength eventsOfState events entry noEvent eventTable words wordsOfWeight weights paths plainCounts halves pathTable pathRoom passes undetectedCount undetectedCounts candidates fewer betters best choiceOf choice unlessTooMany clearedSearch filledSearch searchQuestions chosen searched searchCall digit digits numeral decimal octal hexadecimal line wORDER wEVENTS wPATHS wA wCRC ofWeight orderLine countLine rowText be16 readGenerators readFields lengthRight versionRight countRight recordQuestions read lent printedRow printedSearch printedReading printed
 document-printed = refl
 
 -- NO 1

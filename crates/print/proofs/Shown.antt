@@ -66,8 +66,8 @@ row-shown o events paths polynomial plain undetected before after w end p e s =
     firstNo-yes _ _ (within 1 2 (o .version) (small .some-version) (small .known-version))
     ∙ firstNo-yes _ _ (ap (from-to 2 4) (length-orderIn o) ∙ within 2 4 (o .n) (small .two-generators) (small .four-generators))
     ∙ firstNo-yes _ _ (within 1 64 (o .d) (small .some-weight) (small .some-counts))
-    ∙ firstNo-yes _ _ (le-leb (o .d) (length plain) (subst (λ (k : ℕ). o .d ≤ k) (sym (p .plain-counts)) (small .some-counts)))
-    ∙ firstNo-yes _ _ (le-leb (o .d) (length undetected) (subst (λ (k : ℕ). o .d ≤ k) (sym (p .undetected-counts)) (small .some-counts)))
+    ∙ firstNo-yes _ _ (le-leb (o .d - 1) (length plain) (omega (arith, p .plain-counts, small .some-counts)))
+    ∙ firstNo-yes _ _ (le-leb (o .d - 1) (length undetected) (omega (arith, p .undetected-counts, small .some-counts)))
     ∙ firstNo-yes _ [] (le-leb 4096 (length before) (p .bytes))
     ∙ firstNo-none
     ) e s

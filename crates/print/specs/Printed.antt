@@ -10,9 +10,9 @@ use Rattle.events.specs.Events.{noEvent}
 use Rattle.search.specs.Calls.{Found, SearchTables, searchTables, searchCall}
 use Rattle.text.specs.Text.{rowText, refusalText}
 
--- the tables that it lends: two numbers a path, counts of every weight that an order can have
+-- the tables that it lends: two numbers a path, counts of every weight from 1 on that an order can have
 unfoldable pub lent : SearchTables
-lent = searchTables (replicate 512 noEvent) (replicate 4096 0) (replicate 64 0) (replicate 64 0) (replicate workSize 0)
+lent = searchTables (replicate 512 noEvent) (replicate 4096 0) (replicate 63 0) (replicate 63 0) (replicate workSize 0)
 
 -- what the search answers, with the plain and the undetected counts
 unfoldable pub printedRow : Order → Answer Found → (plain undetected : List ℕ) → List ℕ

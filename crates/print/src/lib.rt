@@ -90,8 +90,8 @@ fn print_order(o: OrderRecord, text: &mut [u8]) -> usize
     requires { ⌜ Small o × (4096 ≤ length (now text)) ⌝ }
     ensures { λ r. ⌜ Shown (printedSearch (orderIn o) (searchCall (orderIn o) lent)) (now (text .entry)) (now (text .exit)) r ⌝ }
 {
-    let mut plain = [0; 64];
-    let mut undetected = [0; 64];
+    let mut plain = [0; 63];
+    let mut undetected = [0; 63];
     let a = search_paths(o, &mut plain, &mut undetected);
     print_searched(o, a, &plain, &undetected, text)
 }

@@ -1,7 +1,7 @@
 -- The questions about a quote: for a tail-biting link and N′ at most N, itself at most 128, the first that says no is the one that a fresh run for N′ asks
 -- (`asks-as-fresh`); and where none says no, what the row asks holds (`may-run`).
 -- Assumes nothing.
-use Prim.Native.Nat.{ℕ, _≤_}
+use Prim.Native.Nat.{ℕ, _-_, _≤_}
 use native.Mathlib.Nat.{le-trans, lt-of-lt-of-le}
 use mathlib.Core.Path.{_≡_, refl, sym, ap, ap₂, _∙_}
 use mathlib.Core.Bool.{Bool, true, false, cond, _&&_}
@@ -72,7 +72,7 @@ module _ (o : Order) (N′ : ℕ) (kind : o .version ≡ 1) (shorter : N′ ≤ 
     where
       -- from 7 on
       after : List Question
-      after = threshold (o .d) ∷ (generatorQuestions (o .v) (o .generators) ++ (room (o .d) plain ∷ room (o .d) undetected ∷ room workSize size ∷ []))
+      after = threshold (o .d) ∷ (generatorQuestions (o .v) (o .generators) ++ (room (o .d - 1) plain ∷ room (o .d - 1) undetected ∷ room workSize size ∷ []))
 
 -- ---- what follows where none says no
 

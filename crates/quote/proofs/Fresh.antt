@@ -134,7 +134,13 @@ module _ (o : Order) (N′ : ℕ) (t : SearchTables) where
   is-best f e =
       let same = quote-is-fresh (may-quote (λ r h. refused-not-accepted r f (sym h ∙ e))) in
       let best = demand-3 q t .names-best f (sym (same .answer) ∙ e) in
-      record { candidate = best .candidate; undetected = same .undetected ∙ best .undetected; divided = best .divided; others-worse = best .others-worse }
+      record {
+        candidate = best .candidate;
+        undetected = same .undetected ∙ best .undetected;
+        divided = best .divided;
+        none-of-weight-0 = best .none-of-weight-0;
+        others-worse = best .others-worse;
+      }
 
   is-tied : (k : ℕ) → (quoteCall o N′ t .0 ≡ refusedWith 15 k) ↔ (MayQuote o N′ t × (NoneRefuses q t × ((counts : List ℕ) × SharedBest q k counts)))
   is-tied k = (

@@ -3,7 +3,7 @@
 use mathlib.Core.Path.{_≡_, refl}
 use mathlib.Core.List.{map, flatMap}
 use lib.Count.{onesIn, ones}
-use Rattle.lists.specs.Lists.{upFrom, filter, count, all, any, padded, cleared}
+use Rattle.lists.specs.Lists.{upFrom, filter, count, all, any, sum, padded, cleared}
 use Rattle.poly.specs.Poly.{bit, _⊕_, digitsThrough, horner, _⊗_, register, remainder}
 use Rattle.gcd.specs.SharedFactor.{divides, total, shareFactor}
 use Rattle.crc.specs.Check.{append, polynomialQuestions, wordQuestions, appendCall}
@@ -11,18 +11,19 @@ use Rattle.code.specs.Links.{terminated, stepsOf, output, eventStates}
 use Rattle.code.specs.Weight.{weightOf, weight}
 use Rattle.code.specs.Trellis.{next, tapped, stepOutput, stepWeight, walkWeight, firstMeets}
 use Rattle.order.specs.Questions.{firstNo, from-to, inRange, hasBit, workSize, shapeQuestions, generatorQuestions}
-use Rattle.order.specs.Order.{withLength, numberQuestions, orderQuestions}
+use Rattle.order.specs.Order.{withLength, ofWeight, numberQuestions, orderQuestions}
 use Rattle.order.specs.Answer.{unless, unlessRefused}
 use Rattle.events.specs.Events.{isListed, eventsOfLength, eventsOfState, events, entry, noEvent, eventTable}
 use Rattle.poly.specs.Word.{halves}
 use Rattle.paths.specs.Paths.{words, wordsOfWeight, weights, paths, plainCounts, pathTable, pathRoom}
+use Rattle.paths.specs.Part.{pathsTo, partFits, partOf, partNumber}
 use Rattle.undetected.specs.Undetected.{passes, undetectedCount, undetectedCounts}
 use Rattle.choice.specs.Choice.{candidates, fewer, betters, best, choiceOf, choice}
 use Rattle.listing.specs.Calls.{unlessTooMany}
 use Rattle.search.specs.Calls.{clearedSearch, filledSearch, searchQuestions, chosen, searched, searchCall}
 use Rattle.quote.specs.Calls.{quotedQuestions, quoteQuestions, quoteCall}
-use Rattle.rows.specs.Rows.{lent, figuresOf, told, filledWith7, marked, rows}
+use Rattle.rows.specs.Rows.{lent, figuresOf, told, filledWith7, marked, paths₄, rows}
 
 pub rows-hold : map (λ line. told (line .0)) rows ≡ map (λ line. line .1) rows
-unfolding flatMap onesIn ones upFrom filter count all any padded cleared bit _⊕_ digitsThrough horner _⊗_ register remainder append polynomialQuestions wordQuestions appendCall terminated stepsOf output eventStates weightOf weight next tapped stepOutput stepWeight walkWeight firstMeets firstNo from-to inRange hasBit workSize divides total shareFactor withLength shapeQuestions numberQuestions generatorQuestions orderQuestions unless unlessRefused isListed eventsOfLength eventsOfState events entry noEvent eventTable words wordsOfWeight weights paths plainCounts halves pathTable pathRoom passes undetectedCount undetectedCounts candidates fewer betters best choiceOf choice unlessTooMany clearedSearch filledSearch searchQuestions chosen searched searchCall quotedQuestions quoteQuestions quoteCall lent figuresOf told filledWith7 marked rows
+unfolding flatMap onesIn ones upFrom filter count all any padded cleared bit _⊕_ digitsThrough horner _⊗_ register remainder append polynomialQuestions wordQuestions appendCall terminated stepsOf output eventStates weightOf weight next tapped stepOutput stepWeight walkWeight firstMeets firstNo from-to inRange hasBit workSize divides total shareFactor withLength shapeQuestions numberQuestions generatorQuestions orderQuestions unless unlessRefused isListed eventsOfLength eventsOfState events entry noEvent eventTable words wordsOfWeight weights paths plainCounts halves pathTable pathRoom passes undetectedCount undetectedCounts candidates fewer betters best choiceOf choice unlessTooMany clearedSearch filledSearch searchQuestions chosen searched searchCall quotedQuestions quoteQuestions quoteCall pathsTo partFits partOf partNumber ofWeight sum lent figuresOf told filledWith7 marked paths₄ rows
 rows-hold = refl

@@ -1,9 +1,9 @@
--- Document 01's rows marked ●, as document 02 (C-11 to C-13) left them, as one table: what is asked, and every figure of the answer. `proofs/Hold.antt` has
+-- Document 01's rows marked ●, as document 02 (C-11 to C-15) left them, as one table: what is asked, and every figure of the answer. `proofs/Hold.antt` has
 -- the one theorem, that each line's figures are what the definitions give. Where a document leaves a figure out, the line states it all the same.
 -- Polynomials are in hexadecimal, the rest in decimal, as in the document. Code S has v = 1 and generators 1, 3. Links are tail-biting where it is not
 -- said that they are terminated.
 -- Assumes nothing.
-use Prim.Native.Nat.{ℕ, _*_}
+use Prim.Native.Nat.{ℕ, _-_, _*_}
 use mathlib.Core.List.{List, [], _∷_}
 use lib.ListN.{length, replicate}
 use Rattle.crc.specs.Check.{appendCall}
@@ -13,13 +13,14 @@ use Rattle.order.specs.Order.{Order, orderQuestions}
 use Rattle.order.specs.declared.questions.Takes.the-variants as T
 use Rattle.events.specs.declared.Event.{Event}
 use Rattle.events.specs.Events.{ErrorEvent, events, noEvent}
-use Rattle.paths.specs.Paths.{paths, plainCounts}
+use Rattle.paths.specs.Paths.{paths, plainCounts, pathTable}
+use Rattle.paths.specs.Part.{partOf, partNumber}
 use Rattle.order.specs.Answer.{Answer, accepted, refused, refusedWith}
 use Rattle.search.specs.Calls.{Found, found, SearchTables, searchTables, searchCall}
 use Rattle.quote.specs.Calls.{quoteCall}
 
 -- what a line asks: the row of an order; what the search, and quoting the length N′, answer and leave of what they are lent; the first question about an
--- order that says no, or 0; the weight of a word; the word of a message
+-- order that says no, or 0; the weight of a word; the word of a message; the part of one weight
 pub data Ask : Type 0 where
   row : Order → Ask
   searched : Order → SearchTables → Ask
@@ -27,6 +28,7 @@ pub data Ask : Type 0 where
   question : Order → Ask
   weigh : Order → (word : ℕ) → Ask
   word : (N m polynomial message : ℕ) → Ask
+  part : (plain : List ℕ) (w : ℕ) (table : List ℕ) → Ask
 
 pub record Figures : Type 0 where
   pub answer : Answer Found
@@ -40,10 +42,11 @@ pub data Told : Type 0 where
   answer-and-tables : Answer Found × SearchTables → Told
   a-number : ℕ → Told
   an-answer : Answer ℕ → Told
+  a-part : (number : ℕ) → List ℕ → Told
 
 -- what the definitions give, with `dso`'s tables lent: 512 events, 2,048 paths
 unfoldable pub lent : ℕ → SearchTables
-lent d = searchTables (replicate 512 noEvent) (replicate (2 * 2048) 0) (replicate d 0) (replicate d 0) (replicate workSize 0)
+lent d = searchTables (replicate 512 noEvent) (replicate (2 * 2048) 0) (replicate (d - 1) 0) (replicate (d - 1) 0) (replicate workSize 0)
 
 unfoldable pub figuresOf : Order → Figures
 figuresOf o =
@@ -57,6 +60,7 @@ told (quoted o N′ t) = answer-and-tables (quoteCall o N′ t)
 told (question o) = a-number (firstNo (orderQuestions T.Everything o))
 told (weigh o u) = a-number (weight o u)
 told (word N m p f) = an-answer (appendCall N m p f)
+told (part plain w table) = a-part (partNumber plain w table) (partOf plain w table)
 
 -- ---- the table
 
@@ -101,45 +105,52 @@ filledWith7 entries paths weights =
 unfoldable pub marked : SearchTables
 marked = filledWith7 2 2 1
 
+-- the plain counts and the path table of S, N=4, d=6
+abbrev plain₄ : List ℕ
+plain₄ = 0 ∷ 0 ∷ 4 ∷ 5 ∷ 4 ∷ []
+
+unfoldable pub paths₄ : List ℕ
+paths₄ = pathTable 26 (order 1 1 4 2 6 S)
+
 unfoldable pub rows : List Line
 rows =
-    -- S, N=3, m=2, d=5: 4 events, 7 paths, 0x5, undetected 0 0 0 0 1
+    -- S, N=3, m=2, d=5: 4 events, 7 paths, 0x5, undetected 0 0 0 1 from weight 1 on
     line 1 3 2 5 S (accepted (found 4 7 0x5))
     (event 0 1 0 0 ∷ event 0 2 3 1 ∷ event 0 3 4 3 ∷ event 1 1 1 1 ∷ [])
     (1 ∷ 2 ∷ 4 ∷ 7 ∷ 3 ∷ 5 ∷ 6 ∷ [])
-    (0 ∷ 0 ∷ 0 ∷ 4 ∷ 3 ∷ []) (0 ∷ 0 ∷ 0 ∷ 0 ∷ 1 ∷ [])
+    (0 ∷ 0 ∷ 4 ∷ 3 ∷ []) (0 ∷ 0 ∷ 0 ∷ 1 ∷ [])
     -- with d=4: 0x5, all zero
     ∷ line 1 3 2 4 S (accepted (found 3 4 0x5))
     (event 0 1 0 0 ∷ event 0 2 3 1 ∷ event 1 1 1 1 ∷ [])
     (1 ∷ 2 ∷ 4 ∷ 7 ∷ [])
-    (0 ∷ 0 ∷ 0 ∷ 4 ∷ []) (0 ∷ 0 ∷ 0 ∷ 0 ∷ [])
+    (0 ∷ 0 ∷ 4 ∷ []) (0 ∷ 0 ∷ 0 ∷ [])
     -- with d=3: refusal 15, two left
     ∷ line 1 3 2 3 S (refusedWith 15 2)
     (event 0 1 0 0 ∷ event 1 1 1 1 ∷ [])
     []
-    (0 ∷ 0 ∷ 0 ∷ []) (0 ∷ 0 ∷ 0 ∷ [])
-    -- S, N=4, m=2, d=5: refusal 15, two left, shared 0 0 0 0 1
+    (0 ∷ 0 ∷ []) (0 ∷ 0 ∷ [])
+    -- S, N=4, m=2, d=5: refusal 15, two left, shared 0 0 0 1
     ∷ line 1 4 2 5 S (refusedWith 15 2)
     (event 0 1 0 0 ∷ event 0 2 3 1 ∷ event 0 3 4 3 ∷ event 1 1 1 1 ∷ [])
     (1 ∷ 2 ∷ 4 ∷ 8 ∷ 3 ∷ 6 ∷ 9 ∷ 12 ∷ 15 ∷ [])
-    (0 ∷ 0 ∷ 0 ∷ 4 ∷ 5 ∷ []) (0 ∷ 0 ∷ 0 ∷ 0 ∷ 1 ∷ [])
+    (0 ∷ 0 ∷ 4 ∷ 5 ∷ []) (0 ∷ 0 ∷ 0 ∷ 1 ∷ [])
     -- with d=6: 0x5 (the row that document 01 prints)
     ∷ line 1 4 2 6 S (accepted (found 5 13 0x5))
     (event 0 1 0 0 ∷ event 0 2 3 1 ∷ event 0 3 4 3 ∷ event 0 4 5 7 ∷ event 1 1 1 1 ∷ [])
     (1 ∷ 2 ∷ 4 ∷ 8 ∷ 3 ∷ 6 ∷ 9 ∷ 12 ∷ 15 ∷ 7 ∷ 11 ∷ 13 ∷ 14 ∷ [])
-    (0 ∷ 0 ∷ 0 ∷ 4 ∷ 5 ∷ 4 ∷ []) (0 ∷ 0 ∷ 0 ∷ 0 ∷ 1 ∷ 0 ∷ [])
+    (0 ∷ 0 ∷ 4 ∷ 5 ∷ 4 ∷ []) (0 ∷ 0 ∷ 0 ∷ 1 ∷ 0 ∷ [])
     -- S, N=4, d=7: 15 paths; words 5 and 10 weigh 6 and stand once each
     ∷ line 1 4 2 7 S (accepted (found 5 15 0x5))
     (event 0 1 0 0 ∷ event 0 2 3 1 ∷ event 0 3 4 3 ∷ event 0 4 5 7 ∷ event 1 1 1 1 ∷ [])
     (1 ∷ 2 ∷ 4 ∷ 8 ∷ 3 ∷ 6 ∷ 9 ∷ 12 ∷ 15 ∷ 7 ∷ 11 ∷ 13 ∷ 14 ∷ 5 ∷ 10 ∷ [])
-    (0 ∷ 0 ∷ 0 ∷ 4 ∷ 5 ∷ 4 ∷ 2 ∷ []) (0 ∷ 0 ∷ 0 ∷ 0 ∷ 1 ∷ 0 ∷ 2 ∷ [])
+    (0 ∷ 0 ∷ 4 ∷ 5 ∷ 4 ∷ 2 ∷ []) (0 ∷ 0 ∷ 0 ∷ 1 ∷ 0 ∷ 2 ∷ [])
     ∷ (weigh (code 1 1 4 S) 5, a-number 6)
     ∷ (weigh (code 1 1 4 S) 10, a-number 6)
-    -- S, N=2, m=1, d=3: 0x3, undetected 0 0 1
+    -- S, N=2, m=1, d=3: 0x3, undetected 0 1
     ∷ line 1 2 1 3 S (accepted (found 2 1 0x3))
     (event 0 1 0 0 ∷ event 1 1 1 1 ∷ [])
     (3 ∷ [])
-    (0 ∷ 0 ∷ 1 ∷ []) (0 ∷ 0 ∷ 1 ∷ [])
+    (0 ∷ 1 ∷ []) (0 ∷ 1 ∷ [])
     -- generators 3, 3, v=1, N=2, m=1, d=1: refusal 16, and nothing lent is changed (word 3 weighs 0)
     ∷ (searched (order 1 1 2 1 1 (3 ∷ 3 ∷ [])) marked, answer-and-tables (refused 16, marked))
     ∷ (weigh (code 1 1 2 (3 ∷ 3 ∷ [])) 3, a-number 0)
@@ -150,7 +161,7 @@ rows =
     ∷ lineOf (order 2 1 3 2 6 S) (accepted (found 4 6 0x5))
     (event 0 1 0 0 ∷ event 0 2 3 1 ∷ event 0 3 4 3 ∷ event 0 4 5 7 ∷ [])
     (1 ∷ 2 ∷ 4 ∷ 3 ∷ 6 ∷ 7 ∷ [])
-    (0 ∷ 0 ∷ 0 ∷ 3 ∷ 2 ∷ 1 ∷ []) (0 ∷ 0 ∷ 0 ∷ 0 ∷ 0 ∷ 0 ∷ [])
+    (0 ∷ 0 ∷ 3 ∷ 2 ∷ 1 ∷ []) (0 ∷ 0 ∷ 0 ∷ 0 ∷ 0 ∷ [])
     ∷ (weigh (code 2 1 3 S) 7, a-number 5)
     ∷ (weigh (code 1 1 3 S) 7, a-number 3)
     -- version 3: refusal 2, before any question about the generators, and nothing lent is changed
@@ -162,7 +173,7 @@ rows =
         accepted (found 4 7 0x5),
         searchTables (entry 0 1 0 0 ∷ entry 0 2 3 1 ∷ entry 0 3 4 3 ∷ entry 0 4 5 7 ∷ entry 1 1 1 1 ∷ entry 0 0 0 0 ∷ [])
             (1 ∷ 0 ∷ 2 ∷ 0 ∷ 4 ∷ 0 ∷ 7 ∷ 0 ∷ 3 ∷ 0 ∷ 5 ∷ 0 ∷ 6 ∷ 0 ∷ 0 ∷ 0 ∷ [])
-            (0 ∷ 0 ∷ 0 ∷ 4 ∷ 3 ∷ 0 ∷ 0 ∷ []) (0 ∷ 0 ∷ 0 ∷ 0 ∷ 1 ∷ 0 ∷ 0 ∷ []) (replicate workSize 0),
+            (0 ∷ 0 ∷ 4 ∷ 3 ∷ 0 ∷ 0 ∷ 0 ∷ []) (0 ∷ 0 ∷ 0 ∷ 1 ∷ 0 ∷ 0 ∷ 0 ∷ []) (replicate workSize 0),
       ),
     )
     -- N'=5 is above N: refusal 5; N'=2 is not above m: refusal 6; a terminated link: refusal 2; nothing lent is changed
@@ -174,6 +185,18 @@ rows =
       quoted (order 1 1 4 2 6 S) 3 (filledWith7 4 8 7),
       answer-and-tables (refused 13, searchTables (replicate 4 noEvent) (replicate 16 0) (replicate 7 0) (replicate 7 0) (replicate workSize 0)),
     )
+    -- d=1 leaves lists of no entries: S, N=4, m=1 has 1 event, no path and 0x3 alone; so has a terminated link, N=3
+    ∷ line 1 4 1 1 S (accepted (found 1 0 0x3)) (event 0 1 0 0 ∷ []) [] [] []
+    ∷ lineOf (order 2 1 3 1 1 S) (accepted (found 1 0 0x3)) (event 0 1 0 0 ∷ []) [] [] []
+    -- d=3 wants two entries of each list of counts: refusal 10 with one, and nothing lent is changed
+    ∷ (searched (order 1 1 3 2 3 S) marked, answer-and-tables (refused 10, marked))
+    -- the parts of 13 paths, N=4, d=6: weight 3 stands first, weight 4 after it; weight 1 has a part of nothing, and weights 0 and 6 have none: 10
+    ∷ (part plain₄ 3 paths₄, a-part 0 (1 ∷ 0 ∷ 2 ∷ 0 ∷ 4 ∷ 0 ∷ 8 ∷ 0 ∷ []))
+    ∷ (part plain₄ 4 paths₄, a-part 0 (3 ∷ 0 ∷ 6 ∷ 0 ∷ 9 ∷ 0 ∷ 12 ∷ 0 ∷ 15 ∷ 0 ∷ []))
+    ∷ (part plain₄ 5 paths₄, a-part 0 (7 ∷ 0 ∷ 11 ∷ 0 ∷ 13 ∷ 0 ∷ 14 ∷ 0 ∷ []))
+    ∷ (part plain₄ 1 paths₄, a-part 0 [])
+    ∷ (part plain₄ 0 paths₄, a-part 10 [])
+    ∷ (part plain₄ 6 paths₄, a-part 10 [])
     -- m=2, N=4: message 1 under 0x7 gives word 7; message 3 under 0x5 gives word 15
     ∷ (word 4 2 0x7 1, an-answer (accepted 7))
     ∷ (word 4 2 0x5 3, an-answer (accepted 15))

@@ -1,6 +1,6 @@
 -- What the questions of the two calls let them assume.
 -- Assumes nothing.
-use Prim.Native.Nat.{ℕ, _/_, _^_}
+use Prim.Native.Nat.{ℕ, _-_, _/_, _^_}
 use mathlib.Core.Path.{_≡_}
 use mathlib.Core.List.{[], _∷_}
 use borrow.Author.Tests.{eqb-true}
@@ -22,7 +22,7 @@ use Rattle.search.specs.Model.Steps.{JobFits, ToRun}
 pub numbered-search : (o : Order) (plain undetected size : ℕ) → Numbered (searchQuestions o plain undetected size)
 unfolding searchQuestions
 numbered-search o plain undetected size =
-    numbered-++ (orderQuestions T.Everything o) (room (o .d) plain ∷ room (o .d) undetected ∷ room workSize size ∷ [])
+    numbered-++ (orderQuestions T.Everything o) (room (o .d - 1) plain ∷ room (o .d - 1) undetected ∷ room workSize size ∷ [])
     (numbered-order T.Everything o) tt
 
 module _ (o : Order) (t : SearchTables) where

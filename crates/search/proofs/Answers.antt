@@ -1,12 +1,12 @@
 -- What the two calls answer and leave, at each of their ends: the listing is refused, or all is listed and the job is done over it.
 -- Assumes nothing.
-use Prim.Native.Nat.{ℕ, _*_, _≤_, _<_}
+use Prim.Native.Nat.{ℕ, _-_, _*_, _≤_, _<_}
 use native.Mathlib.Decide.{ℕ-discrete}
 use native.Mathlib.Omega.{arith}
 use mathlib.Core.Path.{_≡_, refl, sym, ap, ap₂, _∙_}
 use mathlib.Core.Logic.{_≢_, inl, inr}
 use mathlib.Core.Bool.{Bool, cond}
-use mathlib.Core.List.{List, _++_}
+use mathlib.Core.List.{List, [], _++_}
 use lib.Dec.{eqb}
 use lib.ListN.{length, replicate, drop}
 use Rattle.lists.specs.Lists.{padded, cleared}
@@ -15,7 +15,8 @@ use Rattle.lists.proofs.Tests.{true-of-T, false-of-T-not, lt-or-ge}
 use Rattle.order.specs.Order.{Order}
 use Rattle.order.specs.Answer.{Answer, accepted, refused, refusedWith}
 use Rattle.events.specs.Events.{events}
-use Rattle.paths.specs.Paths.{paths, plainCounts, pathTable, pathRoom}
+use Rattle.paths.specs.Paths.{wordsOfWeight, paths, plainCounts, pathTable, pathRoom}
+use Rattle.paths.proofs.FromOne.{none-of-weight-0}
 use Rattle.listing.specs.declared.Listed.{Listed}
 use Rattle.listing.specs.declared.Listed.the-variants as L
 use Rattle.listing.specs.Calls.{Listing, listing, listedAs, PathTables, pathTables, unlessTooMany, clearedPaths, filledPaths, listed}
@@ -150,6 +151,10 @@ module _ (l o : Order) (t : SearchTables) (c : Listed) (left : PathTables) where
     abbrev plain : List ℕ
     plain = left .plain
 
+    -- no path weighs 0
+    none : wordsOfWeight o 0 ≡ []
+    none = none-of-weight-0 o (may .order .order .code)
+
     is-table : table ≡ pathTable np o
     unfolding filledPaths
     is-table = ap (λ (x : PathTables). x .paths) (all .tables)
@@ -158,14 +163,14 @@ module _ (l o : Order) (t : SearchTables) (c : Listed) (left : PathTables) where
     unfolding filledPaths
     is-plain = ap (λ (x : PathTables). x .plain) (all .tables)
 
-    readable-left : Readable (o .N) (o .d) table plain
+    readable-left : Readable (o .N) (o .d - 1) table plain
     unfolding pathRoom
     readable-left =
         let h = all .paths-fit in
         let room : 2 * length (paths o) ≤ np = omega arith in
-        rw (is-table, is-plain) (readable o np nc (may .order .order .code .at-most-128) (may .plain-room) room)
+        rw (is-table, is-plain) (readable o np nc none (may .order .order .code .at-most-128) (may .plain-room) room)
 
-    pub to-finish : (undetected : List ℕ) → length undetected ≡ nu → ToFinish job (o .N) (o .m) (o .d) table plain undetected
+    pub to-finish : (undetected : List ℕ) → length undetected ≡ nu → ToFinish job (o .N) (o .m) (o .d - 1) table plain undetected
     to-finish undetected e = record {
       choose = record {
         readable = readable-left;
@@ -175,22 +180,22 @@ module _ (l o : Order) (t : SearchTables) (c : Listed) (left : PathTables) where
       job-fits = may .job-fits;
     }
 
-    divided-left : (p : ℕ) → dividedCounts (o .m) table plain (o .d) p ≡ undetectedCounts o p
-    divided-left p = ap₂ (λ (x y : List ℕ). dividedCounts (o .m) x y (o .d) p) is-table is-plain ∙ divided-counts o np nc p
+    divided-left : (p : ℕ) → dividedCounts (o .m) table plain (o .d - 1) p ≡ undetectedCounts o p
+    divided-left p = ap₂ (λ (x y : List ℕ). dividedCounts (o .m) x y (o .d - 1) p) is-table is-plain ∙ divided-counts o np nc none p
 
     -- in a list of zeros: as counting leaves it, and as the choice does
     module _ (before after : List ℕ) (zeros : before ≡ replicate nu 0) where
-      counted-left : (p : ℕ) → countedFrom (o .m) p table plain 0 (o .d) before ≡ padded nu 0 (undetectedCounts o p)
+      counted-left : (p : ℕ) → countedFrom (o .m) p table plain 0 (o .d - 1) before ≡ padded nu 0 (undetectedCounts o p)
       counted-left p =
-          ap (countedFrom (o .m) p table plain 0 (o .d)) zeros
-          ∙ counted-cleared (o .m) p table plain (o .d) nu (may .undetected-room) ∙ ap (padded nu 0) (divided-left p)
+          ap (countedFrom (o .m) p table plain 0 (o .d - 1)) zeros
+          ∙ counted-cleared (o .m) p table plain (o .d - 1) nu (may .undetected-room) ∙ ap (padded nu 0) (divided-left p)
 
       laid-left : (p : ℕ) → laid (undetectedCounts o p) before ≡ padded nu 0 (undetectedCounts o p)
       unfolding laid
       laid-left p =
           ap (λ (l : List ℕ). laid l before) (sym (divided-left p))
-          ∙ ap (λ (k : ℕ). dividedCounts (o .m) table plain (o .d) p ++ drop k before) (length-dividedCounts (o .m) p table plain (o .d))
-          ∙ sym (counted-all (o .m) p table plain (o .d) before) ∙ counted-left p
+          ∙ ap (λ (k : ℕ). dividedCounts (o .m) table plain (o .d - 1) p ++ drop k before) (length-dividedCounts (o .m) p table plain (o .d - 1))
+          ∙ sym (counted-all (o .m) p table plain (o .d - 1) before) ∙ counted-left p
 
       abbrev done : SearchTables
       done = beside left after
@@ -200,7 +205,7 @@ module _ (l o : Order) (t : SearchTables) (c : Listed) (left : PathTables) where
       tables-left counts e = ap₂ beside (all .tables) e
 
       -- question 15: one is left, or several
-      module _ (r : Outcome) (chose : Chose (o .m) (o .d) table plain before after r) where
+      module _ (r : Outcome) (chose : Chose (o .m) (o .d - 1) table plain before after r) where
         chosen-left : done ≡ filledSearch l o (undetectedCounts o (r .polynomial)) t
         chosen-left = tables-left _ (chosen-counts o divided-left chose ∙ laid-left (r .polynomial))
 
@@ -225,14 +230,14 @@ module _ (l o : Order) (t : SearchTables) (c : Listed) (left : PathTables) where
         ]
 
       -- the job is done
-      is-done : (s : Searched) (j : Job) → Finished j (o .m) (o .d) c table plain before after s
+      is-done : (s : Searched) (j : Job) → Finished j (o .m) (o .d - 1) c table plain before after s
           → _≡_ {A = Told Found} (searchedAs s, done) (jobDone j l o t)
       unfolding Finished jobDone
       is-done s J.Choose (x, chose, e) = ap (λ (y : Searched). (searchedAs y, done)) e ∙ is-chosen x chose
       is-done s (J.Count p) (counts, e) =
           paired (ap searchedAs e ∙ found-told c p _ _ (all .answer)) (tables-left _ (counts ∙ counted-left p))
 
-      pub ran-done : (s : Searched) → Finished job (o .m) (o .d) c table plain before after s
+      pub ran-done : (s : Searched) → Finished job (o .m) (o .d - 1) c table plain before after s
           → _≡_ {A = Told Found} (searchedAs s, done) (ran job l o t)
       unfolding ran
       ran-done s f = is-done s job f ∙ all-fit l o ne np (clearedSearch t) (jobDone job l o t) (all .events-fit) (all .paths-fit)

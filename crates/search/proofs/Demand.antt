@@ -1,7 +1,8 @@
 -- What the search promises, for whatever order comes and whatever tables are lent (`demand-3`; crates/search/specs/Promise.antt says it). If it names p,
 -- then p has the order's degree and constant term 1, the undetected list is p's counts below the threshold, each of them the number of the words of its
--- weight that p divides, and every other such polynomial has counts that differ from p's, and more at the lowest weight where they differ. Refusal 15
--- comes exactly when no earlier question refuses and two or more share the best counts. `search-promises` says it of the function's own answer.
+-- weight that p divides, with none of weight 0, and every other such polynomial has counts that differ from p's, and more at the lowest weight where they
+-- differ. Refusal 15 comes exactly when no earlier question refuses and two or more share the best counts. `search-promises` says it of the function's
+-- own answer.
 -- Assumes nothing.
 use Prim.Native.Nat.{ℕ, zero, suc, _≤_}
 use native.Mathlib.Omega.{arith}
@@ -15,7 +16,7 @@ use Rattle.order.specs.Questions.{firstNo}
 use Rattle.order.specs.Order.{Order}
 use Rattle.order.specs.Answer.{Answer, accepted, refused, refusedWith}
 use Rattle.order.specs.Answers.{orderIn}
-use Rattle.order.specs.Model.Accepted.{AcceptedAs}
+use Rattle.order.specs.Model.Accepted.{AcceptedCode, AcceptedWhole, AcceptedAs}
 use Rattle.order.specs.declared.questions.Takes.the-variants as T
 use Rattle.order.specs.declared.record.OrderRecord.{OrderRecord}
 use Rattle.order.proofs.FirstNo.{none-in-parts, leaves-refused, leaves-answered, refused-not-accepted, refused-not-with}
@@ -27,7 +28,7 @@ use Rattle.undetected.specs.Undetected.{CountsUndetected}
 use Rattle.undetected.proofs.Undetected.{undetected-means-divided}
 use Rattle.choice.specs.Choice.{Choice, one, tie, choice}
 use Rattle.choice.specs.Best.{SharedBest, OnlyBest}
-use Rattle.choice.proofs.Best.{undetected-count-at}
+use Rattle.choice.proofs.ByWeight.{undetected-of-weight, none-undetected}
 use Rattle.choice.proofs.Chosen.{choice-one, choice-tie⇔shared-best}
 use Rattle.search.specs.declared.Searched.{Searched}
 use Rattle.search.specs.Calls.{Found, found, searchedAs, SearchTables, clearedSearch, filledSearch, searchQuestions, chosen, searched, searchCall}
@@ -86,9 +87,15 @@ module _ (o : Order) (t : SearchTables) where
 
   -- ---- question 15
 
-  positive : NoneRefuses o t → 1 ≤ o .m
+  whole : NoneRefuses o t → AcceptedWhole o
   unfolding searchQuestions AcceptedAs
-  positive n = accepted-order T.Everything o (none-in-parts _ _ (numbered-order T.Everything o) (n .questions) .0) .degree .some-degree
+  whole n = accepted-order T.Everything o (none-in-parts _ _ (numbered-order T.Everything o) (n .questions) .0)
+
+  positive : NoneRefuses o t → 1 ≤ o .m
+  positive n = whole n .degree .some-degree
+
+  code : NoneRefuses o t → AcceptedCode o
+  code n = whole n .order .code
 
   chosen-found : (c : Choice) (f : Found) → chosen o o t c .0 ≡ accepted f → (counts : List ℕ) × (c ≡ one (f .polynomial) counts)
   unfolding chosen
@@ -113,7 +120,8 @@ module _ (o : Order) (t : SearchTables) where
       record {
         candidate = best .candidate;
         undetected = ap (λ (x : SearchTables). x .undetected) left ∙ ap (padded (length (t .undetected)) 0) (best .counted);
-        divided = λ w h. subst (CountsUndetected o p w) (sym (undetected-count-at o p w h)) (undetected-means-divided o p w (best .candidate .0));
+        divided = λ w some h. subst (CountsUndetected o p w) (sym (undetected-of-weight o p w some h)) (undetected-means-divided o p w (best .candidate .0));
+        none-of-weight-0 = subst (CountsUndetected o p 0) (none-undetected o (code n) p) (undetected-means-divided o p 0 (best .candidate .0));
         others-worse = best .others-worse;
       }
 

@@ -2,7 +2,7 @@
 -- Their questions are 2 to 9, 16 and 10, for one polynomial also 11, then 13 and 14, for the search also 15. The counts are those of
 -- `undetected` and the choice that of `choice`: from division and the weight of words alone.
 -- Assumes nothing.
-use Prim.Native.Nat.{ℕ}
+use Prim.Native.Nat.{ℕ, _-_}
 use mathlib.Core.List.{List, [], _∷_, _++_}
 use lib.ListN.{length}
 use Rattle.lists.specs.Lists.{padded, cleared}
@@ -45,9 +45,9 @@ pub record SearchTables : Type 0 where
 abbrev pub searchTables : List Event → List ℕ → List ℕ → List ℕ → List ℕ → SearchTables
 searchTables es ps cs ds us = record { events = es; paths = ps; plain = cs; undetected = ds; work = us }
 
--- the questions before 13: of an order, and of the lengths of both count lists and of the work area
+-- the questions before 13: of an order, and of the lengths of both count lists, which begin with weight 1, and of the work area
 unfoldable pub searchQuestions : Order → (plain undetected size : ℕ) → List Question
-searchQuestions o plain undetected size = orderQuestions T.Everything o ++ (room (o .d) plain ∷ room (o .d) undetected ∷ room workSize size ∷ [])
+searchQuestions o plain undetected size = orderQuestions T.Everything o ++ (room (o .d - 1) plain ∷ room (o .d - 1) undetected ∷ room workSize size ∷ [])
 
 -- and of a polynomial
 unfoldable pub countQuestions : Order → (polynomial plain undetected size : ℕ) → List Question

@@ -5,10 +5,10 @@ use Prim.Native.Nat.{ℕ, _≤_, _<_}
 use mathlib.Core.Path.{_≡_}
 use mathlib.Core.Logic.{_↔_, _≢_}
 use mathlib.Core.List.{List}
-use lib.ListN.{length, getD}
+use lib.ListN.{length}
 use Rattle.lists.specs.Lists.{padded}
 use Rattle.order.specs.Questions.{firstNo}
-use Rattle.order.specs.Order.{Order}
+use Rattle.order.specs.Order.{Order, ofWeight}
 use Rattle.order.specs.Answer.{Answer, accepted, refusedWith}
 use Rattle.events.specs.Events.{events}
 use Rattle.paths.specs.Paths.{paths, pathRoom}
@@ -22,12 +22,13 @@ pub record NoneRefuses (o : Order) (lent : SearchTables) : Type 0 where
   pub events-fit : length (events o) ≤ length (lent .events)
   pub paths-fit : length (paths o) ≤ pathRoom (length (lent .paths))
 
--- p is a candidate, its counts are the undetected list, each is the number of the words of its weight that p divides, and every other candidate has
--- more at the lowest weight where the two differ
+-- p is a candidate, its counts are the undetected list, each is the number of the words of its weight that p divides, no nonzero word that p divides
+-- weighs 0, and every other candidate has more at the lowest weight where the two differ
 pub record NamesBest (o : Order) (lent left : SearchTables) (p : ℕ) : Type 0 where
   pub candidate : IsCandidate (o .m) p
   pub undetected : left .undetected ≡ padded (length (lent .undetected)) 0 (undetectedCounts o p)
-  pub divided : (w : ℕ) → w < o .d → CountsUndetected o p w (getD (undetectedCounts o p) w 0)
+  pub divided : (w : ℕ) → 1 ≤ w → w < o .d → CountsUndetected o p w (ofWeight w (undetectedCounts o p))
+  pub none-of-weight-0 : CountsUndetected o p 0 0
   pub others-worse : (q : ℕ) → IsCandidate (o .m) q → q ≢ p → LowestFewer o p q
 
 -- so many share the best counts, which are left as the undetected list, and the rest as an accepted call leaves it

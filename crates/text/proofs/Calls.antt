@@ -1,6 +1,6 @@
 -- What the calls leave: a refusal with the buffer as it was, or the text in a cleared buffer.
 -- Assumes nothing.
-use Prim.Native.Nat.{ℕ, _≤_, _<_}
+use Prim.Native.Nat.{ℕ, _-_, _≤_, _<_}
 use native.Mathlib.Nat.{zero-add}
 use native.Mathlib.Omega.{arith}
 use mathlib.Core.Path.{_≡_, sym, ap, ap₂, _∙_}
@@ -47,12 +47,12 @@ row-accepted version n d plain undetected size r e z =
     let two = first-yes _ _ tt (sym e ∙ z) in
     let three = first-yes _ _ tt (two .1) in
     let seven = first-yes _ _ tt (three .1) in
-    let first = room-told d plain _ (seven .1) in
-    let second = room-told d undetected _ (first .1) in
+    let first = room-told (d - 1) plain _ (seven .1) in
+    let second = room-told (d - 1) undetected _ (first .1) in
     let last = room-told 4096 size _ (second .1) in
     record {
       at-most-4 = range 2 4 n (three .0) .1;
-      counts = record { at-most-64 = range 1 64 d (seven .0) .1; plain-counts = first .0; undetected-counts = second .0 };
+      counts = record { at-most-63 = omega (arith, range 1 64 d (seven .0) .1); plain-counts = first .0; undetected-counts = second .0 };
       bytes = last .0;
     }
 

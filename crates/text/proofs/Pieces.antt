@@ -1,6 +1,6 @@
 -- The lines of a text, piece by piece, as the code puts them.
 -- Assumes nothing.
-use Prim.Native.Nat.{ℕ, _+_, _≤_, _<_}
+use Prim.Native.Nat.{ℕ, _+_, _-_, _≤_, _<_}
 use native.Mathlib.Numerals.{add-one}
 use native.Mathlib.Omega.{arith}
 use mathlib.Core.Path.{_≡_, sym, ap, ap₂, _∙_}
@@ -12,8 +12,9 @@ use lib.Seq.{take-suc}
 use Rattle.lists.specs.Lists.{upFrom}
 use Rattle.lists.proofs.Lengths.{upFrom-last}
 use Rattle.lists.proofs.Blocks.{flatMap-one, flatMap-append, flatMap-map}
+use Rattle.order.specs.Order.{ofWeight}
 use Rattle.order.specs.declared.record.OrderRecord.{OrderRecord}
-use Rattle.text.specs.Text.{numeral, decimal, octal, hexadecimal, line, wORDER, wCRC, wNO, orderLine, refusalText}
+use Rattle.text.specs.Text.{numeral, decimal, octal, hexadecimal, line, wORDER, wA, wCRC, wNO, orderLine, countLine, refusalText}
 use Rattle.order.specs.Answers.{orderIn}
 use Rattle.order.proofs.Asked.{length-orderIn, generators-in}
 use Rattle.text.specs.Model.Steps.{spaced}
@@ -26,19 +27,26 @@ module _ (f : ℕ → List ℕ) where
       ap (flatMap f) (ap (λ (k : ℕ). take k xs) (add-one i) ∙ take-suc xs i 0 h) ∙ flatMap-append f (take i xs) (getD xs i 0 ∷ [])
       ∙ ap (λ (l : List ℕ). flatMap f (take i xs) ++ l) (flatMap-one f (getD xs i 0))
 
-  pub range-more : (w : ℕ) → flatMap f (upFrom 0 (w + 1)) ≡ flatMap f (upFrom 0 w) ++ f w
-  range-more w =
-      ap (flatMap f) (ap (upFrom 0) (add-one w) ∙ upFrom-last 0 w) ∙ flatMap-append f (upFrom 0 w) ((0 + w) ∷ [])
-      ∙ ap (λ (l : List ℕ). flatMap f (upFrom 0 w) ++ l) (flatMap-one f (0 + w) ∙ ap f zero-first)
+  pub range-more : (k : ℕ) → flatMap f (upFrom 1 (k + 1)) ≡ flatMap f (upFrom 1 k) ++ f (k + 1)
+  range-more k =
+      ap (flatMap f) (ap (upFrom 1) (add-one k) ∙ upFrom-last 1 k) ∙ flatMap-append f (upFrom 1 k) ((1 + k) ∷ [])
+      ∙ ap (λ (l : List ℕ). flatMap f (upFrom 1 k) ++ l) (flatMap-one f (1 + k) ∙ ap f one-last)
     where
-      zero-first : 0 + w ≡ w
-      zero-first = omega arith
+      one-last : 1 + k ≡ k + 1
+      one-last = omega arith
 
 -- ---- the lines
 
 pub decimal-line : (first numbers : List ℕ) → line first (map decimal numbers) ≡ first ++ (spaced 10 numbers ++ (10 ∷ []))
 unfolding line decimal spaced
 decimal-line first numbers = ap (λ (l : List ℕ). first ++ (l ++ (10 ∷ []))) (flatMap-map (λ w. 32 ∷ w) decimal numbers)
+
+-- the line of weight k + 1, which is entry k
+pub count-line : (plain undetected : List ℕ) (k : ℕ) → line (65 ∷ []) (map decimal ((k + 1) ∷ getD plain k 0 ∷ getD undetected k 0 ∷ [])) ≡ countLine plain undetected (k + 1)
+unfolding countLine wA ofWeight
+count-line plain undetected k =
+    let e : k ≡ k + 1 - 1 = omega arith in
+    ap (λ (i : ℕ). line (65 ∷ []) (map decimal ((k + 1) ∷ getD plain i 0 ∷ getD undetected i 0 ∷ []))) e
 
 -- CRC 0x
 pub polynomial-line : (p : ℕ) → line wCRC (hexadecimal p ∷ []) ≡ (67 ∷ 82 ∷ 67 ∷ 32 ∷ 48 ∷ 120 ∷ []) ++ (numeral 16 p ++ (10 ∷ []))

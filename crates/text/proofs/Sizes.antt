@@ -3,9 +3,9 @@
 use Prim.Native.Nat.{ℕ, _+_, _^_, _≤_, _<_}
 use native.Mathlib.Omega.{arith}
 use mathlib.Core.Path.{_≡_, ap}
-use mathlib.Core.List.{List, [], _∷_, flatMap}
-use lib.ListN.{length, getD, length-append}
-use Rattle.text.specs.Text.{numeral, wA, countLine}
+use mathlib.Core.List.{List, [], _∷_, map, flatMap}
+use lib.ListN.{length, length-append}
+use Rattle.text.specs.Text.{numeral, decimal, line}
 use Rattle.text.specs.Model.Steps.{spaced}
 use Rattle.text.proofs.Numerals.{numeral-short}
 use Rattle.text.proofs.Pieces.{decimal-line}
@@ -23,16 +23,16 @@ spaced-three base x y z =
       length-append (numeral base z) [],
     )
 
-pub count-short : (plain undetected : List ℕ) (w : ℕ) → w < 64 → getD plain w 0 < 2 ^ 64 → getD undetected w 0 < 2 ^ 64 → length (countLine plain undetected w) ≤ 51
-unfolding countLine wA
-count-short plain undetected w h p u =
-    let numbers : List ℕ = w ∷ getD plain w 0 ∷ getD undetected w 0 ∷ [] in
+-- a weight of two digits at most, and two counts
+pub count-short : (w x y : ℕ) → w < 64 → x < 2 ^ 64 → y < 2 ^ 64 → length (line (65 ∷ []) (map decimal (w ∷ x ∷ y ∷ []))) ≤ 51
+count-short w x y h p u =
+    let numbers : List ℕ = w ∷ x ∷ y ∷ [] in
     omega (
       arith,
-      ap length (decimal-line wA numbers),
+      ap length (decimal-line (65 ∷ []) numbers),
       length-append (spaced 10 numbers) (10 ∷ []),
-      spaced-three 10 w (getD plain w 0) (getD undetected w 0),
+      spaced-three 10 w x y,
       numeral-short 1 10 w (omega arith) (omega arith),
-      number-short 10 (getD plain w 0) (omega arith) p,
-      number-short 10 (getD undetected w 0) (omega arith) u,
+      number-short 10 x (omega arith) p,
+      number-short 10 y (omega arith) u,
     )

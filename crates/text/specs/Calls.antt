@@ -1,6 +1,6 @@
 -- What the calls that make text answer and leave, for every input. Their questions are 2, 3, 7 and 10 of document 01, as far as they take the values.
 -- Assumes nothing.
-use Prim.Native.Nat.{ℕ}
+use Prim.Native.Nat.{ℕ, _-_}
 use mathlib.Core.List.{List, [], _∷_}
 use lib.ListN.{length}
 use Rattle.lists.specs.Lists.{padded}
@@ -27,7 +27,7 @@ laidOut text buffer = (accepted (length text), padded (length buffer) 0 text)
 -- Of an order only the kind of link, n and d are asked about: a row is printed as it is told, for an order that a call has accepted before. This is the one call that
 -- does not ask all questions about the values that it takes.
 unfoldable pub rowQuestions : (version n d plain undetected size : ℕ) → List Question
-rowQuestions version n d plain undetected size = linkKind version ∷ generatorCount n ∷ threshold d ∷ room d plain ∷ room d undetected ∷ room textSize size ∷ []
+rowQuestions version n d plain undetected size = linkKind version ∷ generatorCount n ∷ threshold d ∷ room (d - 1) plain ∷ room (d - 1) undetected ∷ room textSize size ∷ []
 
 unfoldable pub rowCall : Order → (events paths polynomial : ℕ) → (plain undetected : List ℕ) → List ℕ → Answer ℕ × List ℕ
 rowCall o events paths polynomial plain undetected buffer =

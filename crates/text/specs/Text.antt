@@ -1,12 +1,12 @@
 -- What is printed (document 01, "What `dso` prints"): the row of an order, or a refusal, as bytes. A byte is the number of its character in ASCII.
 -- Assumes nothing.
-use Prim.Native.Nat.{ℕ, zero, suc, _+_, _/_, _%_}
+use Prim.Native.Nat.{ℕ, zero, suc, _+_, _-_, _/_, _%_}
 use mathlib.Core.Bool.{cond}
 use mathlib.Core.List.{List, [], _∷_, _++_, map, flatMap}
 use lib.Dec.{ltb, eqb}
-use lib.ListN.{length, getD}
+use lib.ListN.{length}
 use Rattle.lists.specs.Lists.{upFrom}
-use Rattle.order.specs.Order.{Order}
+use Rattle.order.specs.Order.{Order, ofWeight}
 
 -- ---- numbers
 
@@ -65,13 +65,13 @@ orderLine o =
 
 -- a weight, its plain count, its undetected count
 unfoldable pub countLine : List ℕ → List ℕ → ℕ → List ℕ
-countLine plain undetected w = line wA (map decimal (w ∷ getD plain w 0 ∷ getD undetected w 0 ∷ []))
+countLine plain undetected w = line wA (map decimal (w ∷ ofWeight w plain ∷ ofWeight w undetected ∷ []))
 
--- the row of an order: how many events and paths there are, both counts of every weight below d, and the polynomial
+-- the row of an order: how many events and paths there are, both counts of every weight from 1 to below d, and the polynomial
 unfoldable pub rowText : Order → (events paths polynomial : ℕ) → (plain undetected : List ℕ) → List ℕ
 rowText o events paths polynomial plain undetected =
     orderLine o ++ (line wEVENTS (decimal events ∷ []) ++ (line wPATHS (decimal paths ∷ [])
-    ++ (flatMap (countLine plain undetected) (upFrom 0 (o .d)) ++ line wCRC (hexadecimal polynomial ∷ []))))
+    ++ (flatMap (countLine plain undetected) (upFrom 1 (o .d - 1)) ++ line wCRC (hexadecimal polynomial ∷ []))))
 
 -- a refusal: its number, and for 15 how many are left
 unfoldable pub refusalText : (number left : ℕ) → List ℕ

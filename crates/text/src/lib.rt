@@ -12,6 +12,7 @@ use lines::put_line;
 use lines::put_order;
 use lines::put_polynomial;
 use lists::clear_bytes;
+use order::questions::counted_weights;
 use order::questions::from_to;
 use order::record::OrderRecord;
 
@@ -37,11 +38,11 @@ fn ask_row(o: OrderRecord, plain: usize, undetected: usize, size: usize) -> u64
     if !from_to(1, 64, o.d) {
         return 7;
     }
-    let d = o.d as usize;
-    if plain < d {
+    let entries = counted_weights(o.d) as usize;
+    if plain < entries {
         return 10;
     }
-    if undetected < d {
+    if undetected < entries {
         return 10;
     }
     if size < 4096 {
@@ -65,7 +66,8 @@ fn put_row(
     let to_events = put_order(buffer, 0, o);
     let to_paths = put_line(buffer, to_events, b"EVENTS", &[events]);
     let to_counts = put_line(buffer, to_paths, b"PATHS", &[paths]);
-    let to_polynomial = put_counts(buffer, to_counts, o.d as usize, plain, undetected);
+    let entries = counted_weights(o.d) as usize;
+    let to_polynomial = put_counts(buffer, to_counts, entries, plain, undetected);
     put_polynomial(buffer, to_polynomial, polynomial)
 }
 

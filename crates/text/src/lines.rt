@@ -48,30 +48,31 @@ pub fn put_order(buffer: &mut [u8], at: usize, o: OrderRecord) -> usize
     after_generators + 1
 }
 
-// The counts of one weight, which has two digits at most.
-fn put_count(buffer: &mut [u8], at: usize, w: usize, plain: &[u64], undetected: &[u64]) -> usize
-    requires { ⌜ ToPutCounts (w + 1) (length (now plain)) (length (now undetected)) at 71 (length (now buffer)) ⌝ }
-    ensures { λ r. ⌜ Put 51 (now (buffer .entry)) at (countLine (now (plain .entry)) (now (undetected .entry)) w) (now (buffer .exit)) r ⌝ }
+// The counts of entry k, of weight k + 1.
+fn put_count(buffer: &mut [u8], at: usize, k: usize, plain: &[u64], undetected: &[u64]) -> usize
+    requires { ⌜ ToPutCounts (k + 1) (length (now plain)) (length (now undetected)) at 71 (length (now buffer)) ⌝ }
+    ensures { λ r. ⌜ Put 51 (now (buffer .entry)) at (countLine (now (plain .entry)) (now (undetected .entry)) (k + 1)) (now (buffer .exit)) r ⌝ }
 {
-    put_line(buffer, at, b"A", &[w as u64, plain[w], undetected[w]])
+    let w = k as u64 + 1;
+    put_line(buffer, at, b"A", &[w, plain[k], undetected[k]])
 }
 
-// The counts of every weight below d.
+// The counts of all weights, from 1 on.
 pub fn put_counts(
     buffer: &mut [u8],
     at: usize,
-    d: usize,
+    entries: usize,
     plain: &[u64],
     undetected: &[u64],
 ) -> usize
-    requires { ⌜ ToPutCounts d (length (now plain)) (length (now undetected)) at (51 * d + 20) (length (now buffer)) ⌝ }
-    ensures { λ r. ⌜ Put (51 * d) (now (buffer .entry)) at (flatMap (countLine (now (plain .entry)) (now (undetected .entry))) (upFrom 0 d)) (now (buffer .exit)) r ⌝ }
+    requires { ⌜ ToPutCounts entries (length (now plain)) (length (now undetected)) at (51 * entries + 20) (length (now buffer)) ⌝ }
+    ensures { λ r. ⌜ Put (51 * entries) (now (buffer .entry)) at (flatMap (countLine (now (plain .entry)) (now (undetected .entry))) (upFrom 1 entries)) (now (buffer .exit)) r ⌝ }
 {
     let mut end = at;
-    let mut w = 0;
-    while w < d {
-        end = put_count(buffer, end, w, plain, undetected);
-        w += 1;
+    let mut k = 0;
+    while k < entries {
+        end = put_count(buffer, end, k, plain, undetected);
+        k += 1;
     }
     end
 }

@@ -1,4 +1,4 @@
--- Weight by weight: where the words of a weight stand, that counting those that pass every parity check counts those that p divides, and the counts
+-- Entry by entry: where the words of an entry stand, that counting those that pass every parity check counts those that p divides, and the counts
 -- that stand in the lent list so far.
 -- Assumes nothing.
 use Prim.Native.Nat.{ℕ, suc, _+_, _-_, _*_, _≤_, _<_}
@@ -16,25 +16,25 @@ use Rattle.lists.proofs.Lengths.{length-map-upFrom, upFrom-last}
 use Rattle.poly.specs.Poly.{remainder}
 use Rattle.parity.specs.Model.Parity.{checkTable, Divisor}
 use Rattle.parity.proofs.Divided.{all-even-divided}
-use Rattle.paths.specs.Part.{pathsBefore}
-use Rattle.paths.proofs.Parts.{before-more, before-mono}
+use Rattle.paths.specs.Part.{pathsTo}
+use Rattle.paths.proofs.Parts.{to-more, to-mono}
 use Rattle.poly.specs.Model.Table.{wordAt}
 use Rattle.undetected.specs.Model.Steps.{dividedBetween, dividedOf, evenBetween, upTo, countedFrom, Readable}
 use Rattle.undetected.proofs.Counting.{upTo-within}
 
--- ---- where the words of a weight stand
+-- ---- where the words of an entry stand
 
 module _ (plain : List ℕ) where
-  pub before-next : (w : ℕ) → pathsBefore plain (w + 1) ≡ pathsBefore plain w + getD plain w 0
-  before-next w = ap (pathsBefore plain) (add-one w) ∙ before-more plain w
+  pub before-next : (w : ℕ) → pathsTo plain (w + 1) ≡ pathsTo plain w + getD plain w 0
+  before-next w = ap (pathsTo plain) (add-one w) ∙ to-more plain w
 
-  -- those of weight w end where those below d end, or before
-  pub before-end : (w d at : ℕ) → w < d → at ≡ pathsBefore plain w → at + getD plain w 0 ≤ pathsBefore plain d
-  before-end w d at h e = let s = before-mono plain (w + 1) d (omega arith) in omega (arith, before-next w)
+  -- those of entry w end where those of all end, or before
+  pub before-end : (w entries at : ℕ) → w < entries → at ≡ pathsTo plain w → at + getD plain w 0 ≤ pathsTo plain entries
+  before-end w entries at h e = let s = to-mono plain (w + 1) entries (omega arith) in omega (arith, before-next w)
 
--- ---- the words of one weight
+-- ---- the words of one entry
 
-module _ (bits d m p : ℕ) (table plain : List ℕ) (readable : Readable bits d table plain) (divisor : Divisor m p) where
+module _ (bits entries m p : ℕ) (table plain : List ℕ) (readable : Readable bits entries table plain) (divisor : Divisor m p) where
   even-divided : (a b : ℕ) → evenBetween (checkTable bits m p) m table a b ≡ dividedBetween m p table a b
   unfolding evenBetween dividedBetween wordAt
   even-divided a b =
@@ -44,14 +44,14 @@ module _ (bits d m p : ℕ) (table plain : List ℕ) (readable : Readable bits d
       (readable .numbers (2 * k)) (readable .words k)))
 
   -- the limit is how many there are, so it is never passed
-  pub counted-weight : (rows : List ℕ) (w at r : ℕ) → rows ≡ checkTable bits m p → at ≡ pathsBefore plain w
+  pub counted-weight : (rows : List ℕ) (w at r : ℕ) → rows ≡ checkTable bits m p → at ≡ pathsTo plain w
       → r ≡ upTo (getD plain w 0) (evenBetween rows m table at (at + getD plain w 0)) → r ≡ dividedOf m p table plain w
   unfolding dividedOf dividedBetween
   counted-weight rows w at r er ea e =
       let all : ℕ = getD plain w 0 in
       let same : evenBetween rows m table at (at + all) ≡ dividedOf m p table plain w =
-      ap₂ (λ (l : List ℕ) (x : ℕ). evenBetween l m table x (x + all)) er ea ∙ even-divided (pathsBefore plain w) (pathsBefore plain w + all) in
-      let few = between-le (λ k. eqb (remainder m p (wordAt table k)) 0) (pathsBefore plain w) (pathsBefore plain w + all) in
+      ap₂ (λ (l : List ℕ) (x : ℕ). evenBetween l m table x (x + all)) er ea ∙ even-divided (pathsTo plain w) (pathsTo plain w + all) in
+      let few = between-le (λ k. eqb (remainder m p (wordAt table k)) 0) (pathsTo plain w) (pathsTo plain w + all) in
       e ∙ ap (upTo all) same ∙ sym (upTo-within all (dividedOf m p table plain w) (omega arith))
 
 -- ---- the lent list
@@ -64,7 +64,7 @@ module _ (m p : ℕ) (table plain : List ℕ) where
       sym (ap (λ (n : ℕ). take w l ++ (map (dividedOf m p table plain) (upFrom w n) ++ drop w l)) e ∙ take-append-drop w l)
 
   module _ (first w : ℕ) (l : List ℕ) (begun : first ≤ w) where
-    -- what stands before weight w
+    -- what stands before entry w
     front : List ℕ
     front = take first l ++ map (dividedOf m p table plain) (upFrom first (w - first))
 

@@ -25,7 +25,7 @@ passes o p w u = eqb (weight o u) w && eqb (remainder (o .m) p u) 0
 unfoldable pub undetectedCount : Order → ℕ → ℕ → ℕ
 undetectedCount o p w = count (passes o p w) (words (o .N))
 
--- the same for each weight below d
+-- the same for each weight from 1 to below d
 unfoldable pub undetectedCounts : Order → ℕ → List ℕ
 undetectedCounts o p = map (undetectedCount o p) (weights o)
 

@@ -32,7 +32,7 @@ pub fn count_up_to(
     found
 }
 
-// The undetected counts of p for the weights from `first` to before d. The words of weight `first` begin at place `start`.
+// The undetected counts of p from entry `first` of the lists on; entry w is of weight w + 1. The words of entry `first` begin at place `start`.
 pub fn count_from(
     table: &[u64],
     plain: &[u64],
@@ -41,16 +41,16 @@ pub fn count_from(
     m: u64,
     p: u64,
     first: usize,
-    d: usize,
+    entries: usize,
     start: usize,
 )
-    requires { ⌜ ToCountFrom bits d m p first start (now table) (now plain) (now undetected) ⌝ }
-    ensures { λ _. ⌜ now (undetected .exit) ≡ countedFrom m p (now (table .entry)) (now (plain .entry)) first d (now (undetected .entry)) ⌝ }
+    requires { ⌜ ToCountFrom bits entries m p first start (now table) (now plain) (now undetected) ⌝ }
+    ensures { λ _. ⌜ now (undetected .exit) ≡ countedFrom m p (now (table .entry)) (now (plain .entry)) first entries (now (undetected .entry)) ⌝ }
 {
     let rows = check_table(bits, m, p);
     let mut at = start;
     let mut w = first;
-    while w < d {
+    while w < entries {
         let all = plain[w];
         let next = at + all as usize;
         undetected[w] = count_up_to(table, at, next, &rows, m, all);

@@ -49,21 +49,23 @@
 //! assert_eq!(collect(order, &mut table[..3], &mut work), Err(Refusal::Events));
 //! ```
 //!
-//! Paths go into one more table, two numbers a word, and are counted by weight;
-//! `part` finds the words of one weight again:
+//! Paths go into one more table, two numbers a word, and are counted by weight.
+//! No word but zero weighs 0: a list of counts begins at weight 1, and weight w is
+//! its entry w - 1. `part` finds the words of one weight again:
 //!
 //! ```
 //! use dohvrin::{list, part, words, AnyOrder, Event, Listed, Refusal, WORK};
 //!
 //! let order = AnyOrder::new(&[1, 3], 1, 4, 2, 7);
 //! let (mut events, mut work) = ([Event::default(); 5], vec![0; WORK]);
-//! let (mut paths, mut counts) = ([0; 30], [0; 7]);
+//! let (mut paths, mut counts) = ([0; 30], [0; 6]);
 //! let listed = list(order, &mut events, &mut paths, &mut counts, &mut work);
 //! assert_eq!(listed, Ok(Listed { events: 5, paths: 15 }));
-//! assert_eq!(counts, [0, 0, 0, 4, 5, 4, 2]);
+//! assert_eq!(counts, [0, 0, 4, 5, 4, 2]);
 //! let heaviest: Vec<u128> = words(part(&paths, &counts, 6).unwrap()).collect();
 //! assert_eq!(heaviest, [5, 10]);
 //! assert_eq!(part(&paths, &counts, 7), Err(Refusal::Room));
+//! assert_eq!(part(&paths, &counts, 0), Err(Refusal::Room));
 //! ```
 //!
 //! The search takes the same tables and one more list of counts, those of the
@@ -74,7 +76,7 @@
 //!
 //! let order = AnyOrder::new(&[1, 3], 1, 4, 2, 6);
 //! let (mut events, mut paths, mut work) = ([Event::default(); 5], [0; 30], vec![0; WORK]);
-//! let (mut plain, mut undetected, mut text) = ([0; 7], [0; 7], [0; TEXT]);
+//! let (mut plain, mut undetected, mut text) = ([0; 6], [0; 6], [0; TEXT]);
 //! let lent = Lent {
 //!     events: &mut events,
 //!     paths: &mut paths,
@@ -84,9 +86,9 @@
 //! };
 //! let found = Found { events: 5, paths: 13, polynomial: 0x5 };
 //! assert_eq!(search(order, lent), Ok(Searched::Found(found)));
-//! assert_eq!(undetected, [0, 0, 0, 0, 1, 0, 0]);
+//! assert_eq!(undetected, [0, 0, 0, 1, 0, 0]);
 //! let size = row_text(order, found, &plain, &undetected, &mut text).unwrap();
-//! assert!(text[..size].starts_with(b"ORDER 2 1 4 2 6 1 3\nEVENTS 5\nPATHS 13\nA 0 0 0\n"));
+//! assert!(text[..size].starts_with(b"ORDER 2 1 4 2 6 1 3\nEVENTS 5\nPATHS 13\nA 1 0 0\n"));
 //! assert!(text[..size].ends_with(b"A 5 4 0\nCRC 0x5\n"));
 //! ```
 
@@ -106,7 +108,7 @@ mod word;
 pub use calls::{AnyOrder, Event};
 pub use entries::{Entries, NoRoom};
 pub use link::Link;
-pub use listing::{collect, list, part, words, Listed, WORK};
+pub use listing::{collect, list, part, words, Listed, COUNTS, WORK};
 pub use order::Order;
 pub use quote::Quote;
 pub use refusal::Refusal;

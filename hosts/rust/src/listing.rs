@@ -6,6 +6,10 @@ use crate::{calls, joined, AnyOrder, Event, Refusal};
 /// The least numbers of a work area.
 pub const WORK: usize = 8192;
 
+/// The entries of a list of counts that is long enough for every d: those of the
+/// weights from 1 to 63.
+pub const COUNTS: usize = 63;
+
 /// What a listing leaves in its tables.
 #[derive(Clone, Copy, Debug, PartialEq, Eq)]
 pub struct Listed {
@@ -31,7 +35,7 @@ pub fn collect(order: AnyOrder, events: &mut [Event], work: &mut [u64]) -> Resul
 /// they are joined of: how many there are of both. The path table has two
 /// numbers for each path, its low half first, ordered by weight and number, and
 /// zeros after them; `plain` says how many paths there are of each weight from
-/// 0 to d - 1, with zeros after them; the event table is as `collect` leaves it;
+/// 1 to d - 1, with zeros after them; the event table is as `collect` leaves it;
 /// the work area, of `WORK` numbers at least, is zeros. Refusals 13, more events
 /// than entries, and 14, more paths than the table takes, leave zeros in all
 /// four; another refusal leaves all four as they were. The order's m is not
@@ -57,8 +61,8 @@ pub(crate) fn listed(answer: calls::Listing) -> Result<Listed, Refusal> {
 }
 
 /// The words of one weight in a path table, two numbers each, by the counts of
-/// its paths. Refusal 10: there is no count of that weight, or the table ends
-/// before the words that the counts tell of.
+/// its paths of each weight from 1. Refusal 10: there is no count of that weight,
+/// as of weight 0, or the table ends before the words that the counts tell of.
 pub fn part<'a>(paths: &'a [u64], counts: &[u64], weight: u64) -> Result<&'a [u64], Refusal> {
     let answer = calls::part(paths, counts, weight);
     accepted(answer.refusal)?;

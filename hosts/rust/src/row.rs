@@ -10,6 +10,7 @@ use crate::{refusal_text, row_text, Found, Order, Refusal, TEXT};
 /// let order = Order::new(&[1, 3], 1, 3, 2, 4).unwrap();
 /// let row = Tables::with_entries(4, 7).search(&order).unwrap();
 /// assert_eq!(row.text().lines().last(), Some("CRC 0x5"));
+/// assert_eq!(row.counts().collect::<Vec<_>>(), [(1, 0, 0), (2, 0, 0), (3, 4, 0)]);
 /// ```
 #[derive(Clone, Debug, PartialEq, Eq)]
 pub struct Row {
@@ -40,14 +41,22 @@ impl Row {
         self.found.polynomial
     }
 
-    /// How many paths have each weight below d.
+    /// How many paths have each weight from 1 to d - 1: entry w - 1 is weight w.
     pub fn plain(&self) -> &[u64] {
         &self.plain
     }
 
-    /// How many of them the polynomial divides.
+    /// How many of them the polynomial divides: entry w - 1 is weight w.
     pub fn undetected(&self) -> &[u64] {
         &self.undetected
+    }
+
+    /// Each weight from 1 to d - 1, and its plain and undetected count.
+    pub fn counts(&self) -> impl Iterator<Item = (u64, u64, u64)> + '_ {
+        let both = self.plain.iter().zip(&self.undetected);
+        (1..)
+            .zip(both)
+            .map(|(w, (&plain, &undetected))| (w, plain, undetected))
     }
 
     /// The lines that `dso` prints.
@@ -75,7 +84,7 @@ fn written(write: impl FnOnce(&mut [u8]) -> Result<usize, Refusal>) -> String {
 
 #[cfg(test)]
 mod tests {
-    use crate::{Order, Refusal, Tables};
+    use crate::{AnyOrder, Link, Order, Refusal, Tables};
 
     #[test]
     fn the_example_of_document_01() {
@@ -85,7 +94,6 @@ mod tests {
             "ORDER 2 1 4 2 6 1 3",
             "EVENTS 5",
             "PATHS 13",
-            "A 0 0 0",
             "A 1 0 0",
             "A 2 0 0",
             "A 3 4 0",
@@ -94,6 +102,25 @@ mod tests {
             "CRC 0x5",
         ];
         assert_eq!(row.text(), lines.join("\n") + "\n");
+        let counted = row
+            .counts()
+            .map(|(w, plain, unseen)| format!("A {w} {plain} {unseen}"));
+        assert_eq!(counted.collect::<Vec<_>>(), lines[3..8]);
+    }
+
+    #[test]
+    fn no_counts_below_weight_1() {
+        for link in Link::ALL {
+            let any = AnyOrder::new(&[1, 3], 1, 4, 1, 1).with_link(link);
+            let row = Tables::with_entries(1, 0).search(&Order::of(any).unwrap());
+            let row = row.unwrap();
+            assert_eq!(
+                row.text(),
+                "ORDER 2 1 4 1 1 1 3\nEVENTS 1\nPATHS 0\nCRC 0x3\n"
+            );
+            assert_eq!((row.plain(), row.undetected()), (&[][..], &[][..]));
+            assert_eq!(row.counts().count(), 0);
+        }
     }
 
     #[test]

@@ -14,9 +14,9 @@ pub struct Lent<'a> {
     pub events: &'a mut [Event],
     /// Two numbers a path.
     pub paths: &'a mut [u64],
-    /// How many paths there are of each weight.
+    /// How many paths there are of each weight from 1: d - 1 entries at least.
     pub plain: &'a mut [u64],
-    /// How many of them pass the check.
+    /// How many of them pass the check: as many entries.
     pub undetected: &'a mut [u64],
     /// `WORK` numbers at least.
     pub work: &'a mut [u64],
@@ -57,7 +57,7 @@ pub enum Searched {
 
 /// The best check polynomial of degree m, by the paths of weight below d. The
 /// tables and `plain` are as `list` leaves them; `undetected` says how many
-/// paths of each weight from 0 to d - 1 pass the check of the best polynomial,
+/// paths of each weight from 1 to d - 1 pass the check of the best polynomial,
 /// or of each that shares the best counts, with zeros after them. Refusals 13
 /// and 14 leave zeros in all five; another refusal leaves all five as they were.
 pub fn search(order: AnyOrder, lent: Lent) -> Result<Searched, Refusal> {
@@ -74,7 +74,7 @@ pub fn search(order: AnyOrder, lent: Lent) -> Result<Searched, Refusal> {
 ///
 /// let order = AnyOrder::new(&[1, 3], 1, 4, 2, 6);
 /// let (mut events, mut paths, mut work) = ([Event::default(); 5], [0; 14], vec![0; WORK]);
-/// let (mut plain, mut undetected) = ([0; 6], [0; 6]);
+/// let (mut plain, mut undetected) = ([0; 5], [0; 5]);
 /// let lent = Lent {
 ///     events: &mut events,
 ///     paths: &mut paths,
@@ -85,7 +85,7 @@ pub fn search(order: AnyOrder, lent: Lent) -> Result<Searched, Refusal> {
 /// let found = Found { events: 4, paths: 7, polynomial: 0x5 };
 /// assert_eq!(quote(order, 3, lent), Ok(Searched::Found(found)));
 /// assert_eq!(events.map(|event| event.length), [1, 2, 3, 4, 1]);
-/// assert_eq!(plain, [0, 0, 0, 4, 3, 0]);
+/// assert_eq!(plain, [0, 0, 4, 3, 0]);
 /// ```
 pub fn quote(order: AnyOrder, bits: u64, lent: Lent) -> Result<Searched, Refusal> {
     searched(calls::quote(order, bits, lent))
@@ -113,8 +113,8 @@ pub fn count(order: AnyOrder, polynomial: u64, lent: Lent) -> Result<Listed, Ref
 /// The text of a row, as `dso` prints it, of any numbers: how many bytes of the
 /// buffer it takes, with zeros after them. The text does not say the kind of
 /// link. Only the version (2), the number of generators (3), d (7), and the sizes
-/// are asked for (10: fewer counts than d, a buffer below
-/// `TEXT`); a refusal leaves the buffer as it was.
+/// are asked for (10: fewer counts than the d - 1 of the weights from 1, a buffer
+/// below `TEXT`); a refusal leaves the buffer as it was.
 pub fn row_text(
     order: AnyOrder,
     found: Found,

@@ -1,10 +1,8 @@
 //! The tables that a search needs, owned.
 
 use crate::{count, part, quote, search, words};
-use crate::{Entries, Event, Found, Lent, NoRoom, Order, Quote, Refusal, Row, Searched, WORK};
-
-/// Weights below the greatest threshold.
-const WEIGHTS: usize = 64;
+use crate::{Entries, Event, Found, Lent, NoRoom, Order, Quote, Refusal, Row, Searched};
+use crate::{COUNTS, WORK};
 
 /// The numbers of a path.
 const PATH: usize = 2;
@@ -24,10 +22,10 @@ const PATH: usize = 2;
 pub struct Tables {
     events: Vec<Event>,
     paths: Vec<u64>,
-    plain: [u64; WEIGHTS],
-    undetected: [u64; WEIGHTS],
+    plain: [u64; COUNTS],
+    undetected: [u64; COUNTS],
     work: Vec<u64>,
-    /// Weights below this one are listed.
+    /// So many weights, from 1, are listed.
     listed: usize,
 }
 
@@ -42,8 +40,8 @@ impl Tables {
         Some(Tables {
             events: zeros(entries.events)?,
             paths: zeros(entries.paths.checked_mul(PATH)?)?,
-            plain: [0; WEIGHTS],
-            undetected: [0; WEIGHTS],
+            plain: [0; COUNTS],
+            undetected: [0; COUNTS],
             work: zeros(WORK)?,
             listed: 0,
         })
@@ -93,7 +91,7 @@ impl Tables {
         order: &Order,
         answer: Result<Searched, Refusal>,
     ) -> Result<Row, Refusal> {
-        self.listed = answer.map_or(0, |_| order.d() as usize);
+        self.listed = answer.map_or(0, |_| weights(order));
         match answer? {
             Searched::Found(found) => Ok(self.row(order, found)),
             Searched::Tied(left) => Err(Refusal::Tie { left }),
@@ -103,7 +101,7 @@ impl Tables {
     /// The row of a polynomial, without a search.
     pub fn count(&mut self, order: &Order, polynomial: u64) -> Result<Row, Refusal> {
         let answer = count(order.any(), polynomial, self.lent());
-        self.listed = answer.map_or(0, |_| order.d() as usize);
+        self.listed = answer.map_or(0, |_| weights(order));
         let listed = answer?;
         let found = Found {
             events: listed.events,
@@ -132,12 +130,13 @@ impl Tables {
         }
     }
 
-    /// How many paths were listed of each weight below d.
+    /// How many paths were listed of each weight from 1 to d - 1: entry w - 1 is
+    /// weight w.
     pub fn plain(&self) -> &[u64] {
         &self.plain[..self.listed]
     }
 
-    /// How many of them are undetected.
+    /// How many of them are undetected: entry w - 1 is weight w.
     pub fn undetected(&self) -> &[u64] {
         &self.undetected[..self.listed]
     }
@@ -162,6 +161,11 @@ impl Tables {
         *self = grown.unwrap_or_else(|| Tables::with_entries(before.events, before.paths));
         there
     }
+}
+
+/// How many weights a path of the order may have: those from 1 to d - 1.
+fn weights(order: &Order) -> usize {
+    order.d() as usize - 1
 }
 
 /// So many zeros, where there is memory for them.
@@ -212,10 +216,10 @@ mod tests {
     fn a_tie_leaves_the_lists() {
         let mut tables = Tables::with_entries(5, 13);
         assert_eq!(tables.search(&code_s(4, 5)), Err(Refusal::Tie { left: 2 }));
-        assert_eq!(tables.undetected(), [0, 0, 0, 0, 1]);
-        assert_eq!(tables.plain(), [0, 0, 0, 4, 5]);
-        assert_eq!(tables.paths_of(3).count(), 4);
-        assert_eq!(tables.paths_of(5).count(), 0);
+        assert_eq!(tables.undetected(), [0, 0, 0, 1]);
+        assert_eq!(tables.plain(), [0, 0, 4, 5]);
+        let counts = [0, 1, 2, 3, 4, 5, 64].map(|weight| tables.paths_of(weight).count());
+        assert_eq!(counts, [0, 0, 0, 4, 5, 0, 0]);
     }
 
     fn quoted(bits: u64, d: u64, short: u64) -> Quote {
@@ -259,11 +263,11 @@ mod tests {
         assert_eq!(tables.quote(&quote), Err(Refusal::Tie { left: 2 }));
         assert_eq!(
             (tables.plain(), tables.undetected()),
-            (&[0; 3][..], &[0; 3][..])
+            (&[0; 2][..], &[0; 2][..])
         );
         let quote = quoted(5, 5, 4);
         assert_eq!(tables.quote(&quote), Err(Refusal::Tie { left: 2 }));
-        assert_eq!(tables.undetected(), [0, 0, 0, 0, 1]);
+        assert_eq!(tables.undetected(), [0, 0, 0, 1]);
         assert_eq!(tables.paths_of(4).count(), 5);
     }
 
@@ -281,7 +285,7 @@ mod tests {
         let row = Tables::with_entries(5, 13)
             .count(&code_s(4, 6), 0x7)
             .unwrap();
-        assert_eq!(row.undetected(), [0, 0, 0, 0, 1, 2]);
+        assert_eq!(row.undetected(), [0, 0, 0, 1, 2]);
         assert_eq!(row.polynomial(), 0x7);
     }
 

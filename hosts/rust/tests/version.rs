@@ -62,7 +62,7 @@ fn before_a_text() {
     for order in WRONG.into_iter().flat_map(orders) {
         for room in [0, TEXT] {
             let mut text = vec![9; room];
-            assert_eq!(row_text(order, found, &[0; 6], &[0; 6], &mut text), Err(NO));
+            assert_eq!(row_text(order, found, &[0; 5], &[0; 5], &mut text), Err(NO));
             assert_eq!(text, vec![9; room]);
         }
     }
@@ -70,7 +70,7 @@ fn before_a_text() {
     let texts = Link::ALL.map(|link| {
         let [order, _] = orders(link.version());
         let mut text = vec![9; TEXT];
-        let size = row_text(order, found, &[0; 6], &[0; 6], &mut text).unwrap();
+        let size = row_text(order, found, &[0; 5], &[0; 5], &mut text).unwrap();
         text.truncate(size);
         text
     });

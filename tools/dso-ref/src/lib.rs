@@ -25,6 +25,7 @@ pub mod row;
 pub mod search;
 pub mod table;
 pub mod trellis;
+pub mod weights;
 pub mod words;
 
 pub use events::Event;

@@ -47,9 +47,9 @@ pub struct Printed<'a> {
     pub events: usize,
     /// How many paths are listed.
     pub paths: u128,
-    /// Plain counts by weight.
+    /// Plain counts by weight, from 1.
     pub plain: &'a [u128],
-    /// Undetected counts by weight.
+    /// Undetected counts by weight, from 1.
     pub undetected: &'a [u128],
     /// The polynomial.
     pub polynomial: u64,
@@ -59,7 +59,7 @@ impl fmt::Display for Printed<'_> {
     fn fmt(&self, f: &mut fmt::Formatter) -> fmt::Result {
         write_order(f, self.numbers, self.generators)?;
         writeln!(f, "\nEVENTS {}\nPATHS {}", self.events, self.paths)?;
-        for (w, (plain, undetected)) in self.plain.iter().zip(self.undetected).enumerate() {
+        for (w, (plain, undetected)) in (1..).zip(self.plain.iter().zip(self.undetected)) {
             writeln!(f, "A {w} {plain} {undetected}")?;
         }
         write!(f, "CRC 0x{:X}", self.polynomial)

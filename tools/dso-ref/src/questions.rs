@@ -99,9 +99,10 @@ pub fn work_size(size: usize) -> Asked {
     ask(10, size >= 8192)
 }
 
-/// Question 10, for the plain counts: is there an entry for each weight?
+/// Question 10, for a list of counts: is there an entry for each weight from 1
+/// to d-1? The threshold has passed question 7.
 pub fn count_entries(entries: usize, d: usize) -> Asked {
-    ask(10, entries >= d)
+    ask(10, entries >= d - 1)
 }
 
 /// Question 11: has the polynomial degree m and constant term 1?

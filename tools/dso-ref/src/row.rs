@@ -47,9 +47,9 @@ pub struct Row {
     pub events: usize,
     /// How many paths are listed.
     pub paths: u128,
-    /// Plain counts by weight.
+    /// Plain counts by weight, from 1.
     pub plain: Vec<u128>,
-    /// Undetected counts by weight.
+    /// Undetected counts by weight, from 1.
     pub undetected: Vec<u128>,
     /// The polynomial given, or the best one.
     pub polynomial: u64,
@@ -122,7 +122,7 @@ pub fn paths(order: &Order, lent: Lent, method: Method) -> Result<Vec<(u32, u128
 /// Plain counts, and the best counts with the candidates that have them.
 #[derive(Clone, Debug, PartialEq, Eq)]
 pub struct Counted {
-    /// Plain counts by weight.
+    /// Plain counts by weight, from 1.
     pub plain: Vec<u128>,
     /// The best undetected counts, or those of the polynomial given.
     pub best: Best,
@@ -146,16 +146,16 @@ pub fn count(
     Ok(Counted { plain, best })
 }
 
-/// Plain counts below d, or refusal 14. The threshold rises, so that a great
-/// many paths are noticed where they are still few.
+/// Plain counts of the weights from 1 below d, or refusal 14. The heaviest weight
+/// rises, so that a great many paths are noticed where they are still few.
 pub fn plain_within(
     counter: &mut impl Counter,
     d: usize,
     capacity: usize,
 ) -> Result<Vec<u128>, Refusal> {
     let mut plain = Vec::new();
-    for below in 1..=d {
-        plain = counter.plain(below);
+    for heaviest in 1..d {
+        plain = counter.plain(heaviest);
         let paths = plain
             .iter()
             .fold(0u128, |sum, &count| sum.saturating_add(count));

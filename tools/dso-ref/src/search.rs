@@ -5,11 +5,11 @@ use crate::poly;
 /// A way to count the words of an order by weight. Weights asked for are below
 /// the order's threshold.
 pub trait Counter {
-    /// How many nonzero words weigh w, for each w below `below`.
-    fn plain(&mut self, below: usize) -> Vec<u128>;
+    /// How many nonzero words weigh w, for each w from 1 to the heaviest.
+    fn plain(&mut self, heaviest: usize) -> Vec<u128>;
 
-    /// How many of them p divides, for each w below `below`.
-    fn undetected(&mut self, p: u64, below: usize) -> Vec<u128>;
+    /// How many of them p divides, for each w from 1 to the heaviest.
+    fn undetected(&mut self, p: u64, heaviest: usize) -> Vec<u128>;
 
     /// How many nonzero words of weight w p divides; nothing where they are
     /// more than `most`.
@@ -19,21 +19,21 @@ pub trait Counter {
 /// The best counts and the candidates that have them.
 #[derive(Clone, Debug, PartialEq, Eq)]
 pub struct Best {
-    /// The undetected count for each weight.
+    /// The undetected count for each weight from 1.
     pub counts: Vec<u128>,
     /// Every candidate with these counts, in order.
     pub who: Vec<u64>,
 }
 
 /// The candidates of degree m left after the last weight. `plain` holds the
-/// plain counts of the weights to be compared.
+/// plain counts of the weights to be compared, from 1.
 ///
 /// All candidates are counted at a weight before the next one is looked at:
 /// where words are many, few candidates are left to be counted.
 pub fn best(counter: &mut impl Counter, m: usize, plain: &[u128]) -> Best {
     let mut who: Vec<u64> = poly::candidates(m).collect();
     let mut counts = Vec::new();
-    for (w, &words) in plain.iter().enumerate() {
+    for (w, &words) in (1..).zip(plain) {
         if who.len() == 1 {
             return Best {
                 counts: counter.undetected(who[0], plain.len()),

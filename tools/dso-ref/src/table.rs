@@ -9,6 +9,7 @@ use crate::link::Code;
 use crate::order::Order;
 use crate::search::Counter;
 use crate::trellis::{Trellis, NEVER};
+use crate::weights;
 use std::ops::Range;
 
 /// The table of a code and length: what is the same for every polynomial.
@@ -66,8 +67,8 @@ impl Table {
         &self.least[start]
     }
 
-    /// Counts, by weight, the words whose sum of `powers` over their places is
-    /// 0. After each start state `stop` may end it.
+    /// Counts, by weight from 1, the nonzero words whose sum of `powers` over
+    /// their places is 0. After each start state `stop` may end it.
     fn count(&mut self, powers: &[u32], counts: &mut [u128], stop: impl Fn(&[u128]) -> bool) {
         // Most words start at state 0: kept for last, it is often spared.
         for start in self.starts().rev() {
@@ -83,28 +84,28 @@ impl Table {
         }
     }
 
-    fn counts(&mut self, powers: &[u32], below: usize) -> Vec<u128> {
-        let mut counts = vec![0; below];
+    fn counts(&mut self, powers: &[u32], heaviest: usize) -> Vec<u128> {
+        let mut counts = vec![0; heaviest];
         self.count(powers, &mut counts, |_| false);
         counts
     }
 }
 
 impl Counter for Table {
-    fn plain(&mut self, below: usize) -> Vec<u128> {
-        self.counts(&vec![0; self.steps], below)
+    fn plain(&mut self, heaviest: usize) -> Vec<u128> {
+        self.counts(&vec![0; self.steps], heaviest)
     }
 
-    fn undetected(&mut self, p: u64, below: usize) -> Vec<u128> {
-        self.counts(&powers_of_x(p as u32, self.steps), below)
+    fn undetected(&mut self, p: u64, heaviest: usize) -> Vec<u128> {
+        self.counts(&powers_of_x(p as u32, self.steps), heaviest)
     }
 
     fn undetected_up_to(&mut self, most: u128, p: u64, w: usize) -> Option<u128> {
-        let mut counts = vec![0; w + 1];
+        let (mut counts, last) = (vec![0; w], weights::entry(w));
         self.count(&powers_of_x(p as u32, self.steps), &mut counts, |counts| {
-            counts[w] > most
+            counts[last] > most
         });
-        Some(counts[w]).filter(|&count| count <= most)
+        Some(counts[last]).filter(|&count| count <= most)
     }
 }
 
@@ -168,11 +169,15 @@ impl Cells {
     }
 
     /// Moves every cell by both inputs. A cell is dropped where its weight and
-    /// the least still needed reach `below`.
-    fn step(&mut self, trellis: &Trellis, power: u32, need: &[u8], below: usize) {
-        let fits = |state: usize, weight: usize| weight + usize::from(need[state]) < below;
+    /// the least still needed are more than the heaviest.
+    fn step(&mut self, trellis: &Trellis, power: u32, need: &[u8], heaviest: usize) {
+        let fits = |state: usize, weight: usize| weight + usize::from(need[state]) <= heaviest;
         let (state, step) = trellis.step(0, 1);
-        for (w, layer) in self.rest[..below].iter().enumerate().skip(self.lightest) {
+        for (w, layer) in self.rest[..=heaviest]
+            .iter()
+            .enumerate()
+            .skip(self.lightest)
+        {
             let weight = w + usize::from(step);
             if !fits(state, weight) {
                 break; // nor do the heavier ones
@@ -202,24 +207,23 @@ impl Cells {
         std::mem::swap(&mut self.moving, &mut self.moved);
     }
 
-    /// Reads the words that have come back to the start state.
+    /// Reads the nonzero words that have come back to the start state.
     fn read(&self, start: usize, counts: &mut [u128]) {
+        // A one at state 0 weighs something: a walk that rests there without
+        // weight, and began there, is the zero word's.
+        let resting = match start {
+            0 => &self.rest[1..],
+            _ => &[],
+        };
         // After the last step only the start state needs no more weight, so
         // cells still moving are there.
-        let back = self
-            .rest
-            .iter()
-            .filter(|_| start == 0)
-            .chain([&self.moving]);
+        let back = resting.iter().chain([&self.moving]);
         for cell in back
             .flat_map(Layer::cells)
             .filter(|cell| cell.key.remainder() == 0)
         {
-            let count = &mut counts[cell.key.weight()];
+            let count = &mut counts[weights::entry(cell.key.weight())];
             *count = count.saturating_add(cell.count);
-        }
-        if start == 0 {
-            counts[0] -= 1; // the zero word
         }
     }
 }

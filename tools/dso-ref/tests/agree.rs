@@ -9,16 +9,23 @@ use dso_ref::poly;
 use dso_ref::row::{self, count};
 use dso_ref::search::{Best, Counter};
 use dso_ref::table::Table;
+use dso_ref::weights;
 use dso_ref::words::Words;
 use dso_ref::{paths, Failure, Lent, Method, Order, Refusal};
 
 const ALL: usize = usize::MAX;
 
+/// A polynomial of degree m with constant term 1.
+fn candidate(random: &mut Random, m: usize) -> u64 {
+    let power = 1 << m;
+    power | (random.next() % power) | 1
+}
+
 /// The best counts as the definition has them: of all candidates' counts, those
 /// that none betters.
 fn best_by_definition(words: &mut Words, order: &Order) -> Best {
     let all: Vec<(Vec<u128>, u64)> = poly::candidates(order.degree())
-        .map(|p| (words.undetected(p, order.threshold()), p))
+        .map(|p| (words.undetected(p, order.threshold() - 1), p))
         .collect();
     // Of two lists the lesser is the one with fewer at the first difference.
     let counts = all.iter().map(|(counts, _)| counts).min().unwrap().clone();
@@ -45,13 +52,10 @@ fn words_and_table_agree_on_small_orders() {
             best_by_definition(&mut words, &order),
             "{order}"
         );
-        let p = random.candidate(order.degree());
-        let of_words = words.undetected(p, order.threshold());
-        assert_eq!(
-            of_words,
-            table.undetected(p, order.threshold()),
-            "{order} {p:X}"
-        );
+        let p = candidate(&mut random, order.degree());
+        let heaviest = order.threshold() - 1;
+        let of_words = words.undetected(p, heaviest);
+        assert_eq!(of_words, table.undetected(p, heaviest), "{order} {p:X}");
         let listed = paths::list(&table, order.threshold());
         assert_eq!(words.paths(), listed, "{order}");
     }
@@ -219,7 +223,7 @@ fn the_table_agrees_with_the_listed_paths_of_long_orders() {
     let mut checked = 0;
     while checked < 400 {
         let order = random.order(6, 128, 12, 24);
-        let p = random.candidate(order.degree());
+        let p = candidate(&mut random, order.degree());
         let mut table = Table::new(&order);
         if let Ok(counted) = count(&mut table, &order, 20_000, Some(p)) {
             let listed = paths::list(&table, order.threshold());
@@ -236,7 +240,7 @@ fn the_table_agrees_with_the_listed_paths_of_long_orders() {
 
 /// Plain and undetected counts of listed paths, each weighed anew and divided.
 fn weighed_and_divided(order: &Order, listed: &[(u32, u128)], p: u64) -> (Vec<u128>, Vec<u128>) {
-    let mut plain = vec![0; order.threshold()];
+    let mut plain = vec![0; order.threshold() - 1];
     let mut undetected = plain.clone();
     for &(weight, word) in listed {
         assert_eq!(
@@ -244,8 +248,9 @@ fn weighed_and_divided(order: &Order, listed: &[(u32, u128)], p: u64) -> (Vec<u1
             Ok(weight),
             "{order} {word}"
         );
-        plain[weight as usize] += 1;
-        undetected[weight as usize] += u128::from(poly::divides(p, word));
+        let entry = weights::entry(weight as usize);
+        plain[entry] += 1;
+        undetected[entry] += u128::from(poly::divides(p, word));
     }
     (plain, undetected)
 }

@@ -37,14 +37,14 @@ fn tie(left: usize) -> Result<Row, Failure> {
 #[test]
 fn code_s_of_length_3() {
     let s = order(3, 2, 5, &[1, 3]);
-    assert_eq!(short(&s), (4, 7, vec![0, 0, 0, 0, 1], 0x5));
+    assert_eq!(short(&s), (4, 7, vec![0, 0, 0, 1], 0x5));
     let listed: Vec<String> = events::list(&s, 4)
         .unwrap()
         .iter()
         .map(|e| e.to_string())
         .collect();
     assert_eq!(listed, ["0 1 0 0", "0 2 3 1", "0 3 4 3", "1 1 1 1"]);
-    assert_eq!(short(&order(3, 2, 4, &[1, 3])).2, [0; 4]);
+    assert_eq!(short(&order(3, 2, 4, &[1, 3])).2, [0; 3]);
     assert_eq!(short(&order(3, 2, 4, &[1, 3])).3, 0x5);
     assert_eq!(run(&order(3, 2, 3, &[1, 3]), Lent::default()), tie(2));
 }
@@ -78,7 +78,7 @@ fn code_s_of_length_4() {
     let tied = order(4, 2, 5, &[1, 3]);
     assert_eq!(run(&tied, Lent::default()), tie(2));
     let shared = Best {
-        counts: vec![0, 0, 0, 0, 1],
+        counts: vec![0, 0, 0, 1],
         who: vec![0x5, 0x7],
     };
     assert_eq!(
@@ -105,7 +105,20 @@ fn words_5_and_10_stand_once_each() {
 
 #[test]
 fn the_shortest_rows() {
-    assert_eq!(short(&order(2, 1, 3, &[1, 3])), (2, 1, vec![0, 0, 1], 0x3));
+    assert_eq!(short(&order(2, 1, 3, &[1, 3])), (2, 1, vec![0, 1], 0x3));
+}
+
+#[test]
+fn no_weight_is_below_1() {
+    for s in [order(2, 1, 1, &[1, 3]), terminated(1, 2, 1, 1, &[1, 3])] {
+        // The zero loop is an event.
+        assert_eq!(short(&s), (1, 0, vec![], 0x3));
+        let row = run(&s, Lent::default()).unwrap();
+        let lines = ["ORDER 2 1 2 1 1 1 3", "EVENTS 1", "PATHS 0", "CRC 0x3"];
+        assert_eq!(row.to_string(), lines.join("\n"));
+        let of_one = row::row(&s, Lent::default(), Some(0x3), Method::Both);
+        assert_eq!(of_one, Ok(row));
+    }
 }
 
 #[test]
@@ -151,7 +164,7 @@ fn a_polynomial_given_is_asked_about_before_the_tables() {
     let seven = row(&s, Lent::default(), Some(0x7), Method::Both).unwrap();
     assert_eq!(
         (seven.undetected, seven.polynomial),
-        (vec![0, 0, 0, 0, 1, 2], 0x7)
+        (vec![0, 0, 0, 1, 2], 0x7)
     );
 }
 
@@ -177,8 +190,8 @@ fn code_s_terminated() {
     assert_eq!(events::list(&s, 3), Err(Refusal::No(13)));
     let row = run(&s, Lent::default()).unwrap();
     assert_eq!((row.events, row.paths, row.polynomial), (4, 6, 0x5));
-    assert_eq!(row.plain, [0, 0, 0, 3, 2, 1]);
-    assert_eq!(row.undetected, [0; 6]);
+    assert_eq!(row.plain, [0, 0, 3, 2, 1]);
+    assert_eq!(row.undetected, [0; 5]);
     let with = |events, paths| run(&s, Lent { events, paths });
     assert!(with(4, 6).is_ok());
     assert_eq!(with(4, 5), no(14));
@@ -196,9 +209,9 @@ fn the_longest_terminated_orders() {
     let row = row(&long, all, Some(0x83), Method::Table).unwrap();
     // Two bits up to 8 places apart are one event, else two.
     assert_eq!((row.events, row.paths), (10, 8256));
-    assert_eq!(row.plain, [0, 0, 128, 0, 8128]);
+    assert_eq!(row.plain, [0, 128, 0, 8128]);
     // x^7+x+1 divides x^127+1.
-    assert_eq!(row.undetected, [0, 0, 0, 0, 1]);
+    assert_eq!(row.undetected, [0, 0, 0, 1]);
     let many = terminated(8, 128, 12, 64, &[0o561, 0o753]);
     assert_eq!(run(&many, Lent::default()), no(13));
     let none = terminated(1, 128, 12, 1, &[1, 3]);

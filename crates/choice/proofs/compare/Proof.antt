@@ -1,4 +1,4 @@
--- The outer invariant: the first k candidates have been compared. The inner: candidate k and the best agree below weight w, whose words
+-- The outer invariant: the first k candidates have been compared. The inner: candidate k and the best agree before entry w, whose words
 -- begin at place `at`.
 -- Assumes nothing.
 use native.Mathlib.Omega.{arith}
@@ -8,7 +8,7 @@ use mathlib.Core.List.{List}
 use Prim.Native.Nat.{ℕ, _+_, _-_, _*_, _^_, _≤_, _<_}
 use lib.ListN.{length, getD}
 use Rattle.parity.specs.Model.Parity.{Divisor}
-use Rattle.paths.specs.Part.{pathsBefore}
+use Rattle.paths.specs.Part.{pathsTo}
 use Rattle.paths.proofs.Parts.{sum-none}
 use Rattle.undetected.specs.Model.Steps.{dividedCounts}
 use Rattle.undetected.proofs.Counted.{before-next, before-end}
@@ -19,26 +19,26 @@ use Rattle.choice.proofs.Comparing.{met-begin, met-worse, met-better, m
 use Rattle.choice.proofs.compare.Statement.{statement}
 use Rattle.choice.proofs.compare.Tie as tie
 
-record Level (m d : ℕ) (table plain undetected₀ undetected : List ℕ) (alive₀ alive : List Bool) (k₀ k p at w : ℕ) : Type 0 where
+record Level (m entries : ℕ) (table plain undetected₀ undetected : List ℕ) (alive₀ alive : List Bool) (k₀ k p at w : ℕ) : Type 0 where
   same-list : undetected ≡ undetected₀
   same-flags : alive ≡ alive₀
   same-candidate : k ≡ k₀
-  within : w ≤ d
-  placed : at ≡ pathsBefore plain w
-  agree : Agree w (dividedCounts m table plain d p) (bestOf m table plain d k)
+  within : w ≤ entries
+  placed : at ≡ pathsTo plain w
+  agree : Agree w (dividedCounts m table plain entries p) (bestOf m table plain entries k)
 
 abbrev Inv-loop : tie.InvT-loop
-Inv-loop table plain undetected₀ bits m d n alive₀ k₀ p rows at₀ w₀ undetected alive k at w =
-    Level m d table plain undetected₀ undetected alive₀ alive k₀ k p at w
+Inv-loop table plain undetected₀ bits m entries n alive₀ k₀ p rows at₀ w₀ undetected alive k at w =
+    Level m entries table plain undetected₀ undetected alive₀ alive k₀ k p at w
 
 abbrev μ-loop : tie.MeasureT-loop
-μ-loop table plain undetected₀ bits m d n alive₀ k₀ p rows at₀ w₀ undetected alive k at w = d - w
+μ-loop table plain undetected₀ bits m entries n alive₀ k₀ p rows at₀ w₀ undetected alive k at w = entries - w
 
 abbrev Inv-candidates : tie.InvT-candidates
-Inv-candidates table plain undetected₀ bits m d n alive₀ k₀ undetected alive k = Met m d n table plain undetected₀ undetected alive k
+Inv-candidates table plain undetected₀ bits m entries n alive₀ k₀ undetected alive k = Met m entries n table plain undetected₀ undetected alive k
 
 abbrev μ-candidates : tie.MeasureT-candidates
-μ-candidates table plain undetected₀ bits m d n alive₀ k₀ undetected alive k = n - k
+μ-candidates table plain undetected₀ bits m entries n alive₀ k₀ undetected alive k = n - k
 
 -- of these invariants and measures
 abbrev Here : (tie.InvT-loop → tie.MeasureT-loop → tie.InvT-candidates → tie.MeasureT-candidates → Type 0) → Type 0
@@ -53,7 +53,7 @@ At = Here tie.At-loop
 abbrev start : At → Start
 start l = l .before .before .before .before .before .before .before .before
 
--- ---- what holds while weights are compared
+-- ---- what holds while entries are compared
 
 module _ (l : At) where
   abbrev s : Start
@@ -67,14 +67,14 @@ module _ (l : At) where
   p = l .before .before .candidate .result
 
   abbrev mine : List ℕ
-  mine = dividedCounts (s .args .m) (s .args .table .now) plain (s .args .d) p
+  mine = dividedCounts (s .args .m) (s .args .table .now) plain (s .args .entries) p
 
   abbrev best : List ℕ
-  best = bestOf (s .args .m) (s .args .table .now) plain (s .args .d) (l .loop .k)
+  best = bestOf (s .args .m) (s .args .table .now) plain (s .args .entries) (l .loop .k)
 
   met :
       let a = s .args in
-      Met (a .m) (a .d) (a .n) (a .table .now) plain (a .undetected .now) (l .loop .undetected) (l .loop .alive) (l .loop .k)
+      Met (a .m) (a .entries) (a .n) (a .table .now) plain (a .undetected .now) (l .loop .undetected) (l .loop .alive) (l .loop .k)
   met =
       let i = l .loop .inv in
       met-same (i .same-list) (i .same-flags) (i .same-candidate) (l .before .before .before .before .candidates .inv)
@@ -91,16 +91,16 @@ module _ (l : At) where
   divisor : Divisor (s .args .m) p
   divisor = candidate-divisor (s .pre .choose .degree) (s .pre .all) more named
 
-  counts : s .args .d ≤ length (l .loop .undetected)
+  counts : s .args .entries ≤ length (l .loop .undetected)
   counts = omega (arith, met-length (s .pre) met, s .pre .choose .counts)
 
-  -- the words of weight w lie in the table
-  inside : l .loop .w < s .args .d → 2 * (l .loop .at + getD plain (l .loop .w) 0) ≤ length (s .args .table .now)
+  -- the words of entry w lie in the table
+  inside : l .loop .w < s .args .entries → 2 * (l .loop .at + getD plain (l .loop .w) 0) ≤ length (s .args .table .now)
   inside h =
-      let ends = before-end plain (l .loop .w) (s .args .d) (l .loop .at) h (l .loop .inv .placed) in
+      let ends = before-end plain (l .loop .w) (s .args .entries) (l .loop .at) h (l .loop .inv .placed) in
       omega (arith, s .pre .choose .readable .inside)
 
--- once the words of weight w are counted
+-- once the words of entry w are counted
 abbrev Counted : Type 0
 Counted = Here tie.After-count-up-to
 

@@ -26,7 +26,7 @@ firstOf (p ∷ ps) = p
 
 -- the candidates of degree m left by the counts over a table
 unfoldable pub leftOver : ℕ → List ℕ → List ℕ → ℕ → List ℕ
-leftOver m table plain d = bestBy (dividedCounts m table plain d) (candidates m)
+leftOver m table plain entries = bestBy (dividedCounts m table plain entries) (candidates m)
 
 -- a flag for each candidate of degree m, up where it is left; flags that no candidate has stay up
 unfoldable pub flagsLeft : ℕ → (ℕ → List ℕ) → List Bool
@@ -48,15 +48,15 @@ laid xs l = xs ++ drop (length xs) l
 
 -- the flags of those left, and their counts at the beginning of the undetected list
 abbrev pub LeftAlive : ℕ → ℕ → List ℕ → List ℕ → List ℕ → List ℕ → List Bool → Type 0
-LeftAlive m d table plain before after alive =
-    (alive ≡ flagsLeft m (dividedCounts m table plain d))
-    × (after ≡ laid (dividedCounts m table plain d (firstOf (leftOver m table plain d))) before)
+LeftAlive m entries table plain before after alive =
+    (alive ≡ flagsLeft m (dividedCounts m table plain entries))
+    × (after ≡ laid (dividedCounts m table plain entries (firstOf (leftOver m table plain entries))) before)
 
 -- how many are left, the first of them, and its counts at the beginning of the undetected list
-pub record Chose (m d : ℕ) (table plain before after : List ℕ) (r : Outcome) : Type 0 where
-  pub how-many : r .left ≡ length (leftOver m table plain d)
-  pub first : r .polynomial ≡ firstOf (leftOver m table plain d)
-  pub listed : after ≡ laid (dividedCounts m table plain d (firstOf (leftOver m table plain d))) before
+pub record Chose (m entries : ℕ) (table plain before after : List ℕ) (r : Outcome) : Type 0 where
+  pub how-many : r .left ≡ length (leftOver m table plain entries)
+  pub first : r .polynomial ≡ firstOf (leftOver m table plain entries)
+  pub listed : after ≡ laid (dividedCounts m table plain entries (firstOf (leftOver m table plain entries))) before
 
 -- ---- what is asked
 
@@ -70,14 +70,14 @@ pub record ToName (m k : ℕ) : Type 0 where
   pub degree : CheckDegree m
   pub below : k < 2 ^ (m - 1)
 
--- the candidates of degree m over a table, with a list that takes the counts of d weights
-pub record ToChoose (bits d m : ℕ) (table plain undetected : List ℕ) : Type 0 where
-  pub readable : Readable bits d table plain
+-- the candidates of degree m over a table, with a list that takes so many counts
+pub record ToChoose (bits entries m : ℕ) (table plain undetected : List ℕ) : Type 0 where
+  pub readable : Readable bits entries table plain
   pub degree : CheckDegree m
-  pub counts : d ≤ length undetected
+  pub counts : entries ≤ length undetected
 
 -- all n of them, once the counts of candidate 0 stand in the list
-pub record ToCompare (bits d m n : ℕ) (table plain undetected : List ℕ) : Type 0 where
-  pub choose : ToChoose bits d m table plain undetected
+pub record ToCompare (bits entries m n : ℕ) (table plain undetected : List ℕ) : Type 0 where
+  pub choose : ToChoose bits entries m table plain undetected
   pub all : n ≡ 2 ^ (m - 1)
-  pub first-counted : take d undetected ≡ dividedCounts m table plain d (2 ^ m + 1)
+  pub first-counted : take entries undetected ≡ dividedCounts m table plain entries (2 ^ m + 1)

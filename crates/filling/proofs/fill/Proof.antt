@@ -95,7 +95,7 @@ module _ {M : Type 1} (𝓤 : URA M) (H : Heap 𝓤) (𝓜 : Model 𝓤 H) (𝓖
       makes ! 4 (of-opd ! (lit ! tt)) refl (tt, record { fits = lit< tt }) $ makes ! 4 (of-opd ! (lit ! tt)) refl (tt, record { fits = lit< tt }) $
       -- weight by weight
       while ! 𝓣 4 13 (1 ∷ 2 ∷ 3 ∷ []) (Stage b) (λ x. o .d - x .w) (λ x. (11, vint w64 (x .at)) ∷ (12, vint w64 (x .w)) ∷ []) (λ x. mut paths (x .ls) (x .same-ls) ∷ mut plain (x .ms) (x .same-ms) ∷ mut work (x .us) (x .stands .work-size) ∷ []) (λ x. ltb (x .w) d)
-      refl (staged b 0 0 ls₀ ms₀ us₂ (begun b (n .it) (work .was) us₁ us₂ ls₀ ms₀ (to-fill .all) (to-fill .zeros) is-us₁ is-us₂ ku₂ no-paths no-counts)) refl (λ x. bin ! (var ! 4 refl) (var ! 4 refl) tt) refl (λ x. refl)
+      refl (staged b 1 0 ls₀ ms₀ us₂ (begun b (n .it) (work .was) us₁ us₂ ls₀ ms₀ (to-fill .all) (to-fill .zeros) is-us₁ is-us₂ ku₂ no-paths no-counts)) refl (λ x. bin ! (var ! 4 refl) (var ! 4 refl) tt) refl (λ x. refl)
       (λ x less q back.
       let below : x .w < d = ltb→lt (x .w) d less in
       let low : x .w < o .d = subst (λ (m : ℕ). x .w < m) e-d below in

@@ -1,6 +1,7 @@
 -- Sorted and counted where the table took the words, or left alone.
 -- Assumes nothing.
 use borrow.Author.Needs.{needs}
+use native.Mathlib.Omega.{arith}
 use mathlib.Core.Path.{_∙_}
 use Rattle.filling.proofs.Settled.{settled-full, settled-sorted}
 use Rattle.filling.proofs.settle.Statement.{statement}
@@ -14,6 +15,9 @@ sort-requires c κs = c .before .before .before .before .pre .narrow (c .before 
 
 sub-plain : tie.Need-sub-plain
 sub-plain c = c .before .before .before .before .before .before .before .pre .narrow (c .before .before .before .before .if1 .left) .part .ordered
+
+sub-plain-2 : tie.Need-sub-plain-2
+sub-plain-2 c = omega (arith, c .before .before .before .before .before .before .before .pre .some-weight)
 
 mul-plain : tie.Need-mul-plain
 mul-plain c = search needs
@@ -37,6 +41,7 @@ settle-spec =
     returns
     sort-requires
     sub-plain
+    sub-plain-2
     mul-plain
     slice-write-plain
     same-length

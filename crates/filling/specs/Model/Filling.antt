@@ -21,9 +21,9 @@ use Rattle.sort.specs.Model.Steps.{Narrow}
 unfoldable pub settledPaths : List ℕ → ℕ → ℕ → List ℕ
 settledPaths paths at next = cond (leb next (length paths / 2)) (sortedPart paths at next) paths
 
--- and counted as those of weight w
+-- and counted as those of weight w, which is entry w - 1
 unfoldable pub settledCounts : ℕ → List ℕ → ℕ → ℕ → ℕ → List ℕ
-settledCounts size counts at next w = cond (leb next (size / 2)) (set counts w (next - at)) counts
+settledCounts size counts at next w = cond (leb next (size / 2)) (set counts (w - 1) (next - at)) counts
 
 -- the weight after w; none where the table is too small
 unfoldable pub laterWeight : ℕ → ℕ → ℕ → ℕ → ℕ
@@ -31,7 +31,8 @@ laterWeight w d next room = cond (leb next room) (w + 1) d
 
 -- what that asks: the words are of so many bits, and the weight has a count
 pub record Settles (paths counts : List ℕ) (at next w bits : ℕ) : Type 0 where
-  pub counted : w < length counts
+  pub some-weight : 1 ≤ w
+  pub counted : w - 1 < length counts
   pub narrow : next ≤ length paths / 2 → Narrow paths at next bits
 
 -- ---- the path table filled from a collected event table
@@ -49,7 +50,7 @@ pub record ToFill (o : Order) (table : List Event) (n : ℕ) (plain work : List 
   pub order : Accepted o
   pub from : TableFor o table
   pub all : n ≡ length (events (from .longer))
-  pub counts : o .d ≤ length plain
+  pub counts : o .d - 1 ≤ length plain
   pub wide : workSize ≤ length work
   pub zeros : work ≡ cleared 0 work
 

@@ -1,6 +1,6 @@
 -- What the parts of the listing compute (a model): what the collection answered, and what the listing of accepted orders asks.
 -- Assumes nothing.
-use Prim.Native.Nat.{ℕ, _≤_}
+use Prim.Native.Nat.{ℕ, _-_, _≤_}
 use mathlib.Core.List.{List}
 use lib.ListN.{length}
 use Rattle.order.specs.Order.{Order}
@@ -23,5 +23,5 @@ pub record ToList (longer o : Order) (plain work : List ℕ) : Type 0 where
   pub collected : Accepted longer
   pub order : Accepted o
   pub no-longer : NoLonger o longer
-  pub counts : o .d ≤ length plain
+  pub counts : o .d - 1 ≤ length plain
   pub wide : workSize ≤ length work

@@ -1,11 +1,11 @@
--- How many paths stand before those of one weight, as the code sums them (a model).
+-- How many paths have weights 1 to w, as the code sums them (a model).
 -- Assumes nothing.
 use mathlib.Core.Bool.{cond}
 use mathlib.Core.List.{List}
 use Prim.Native.Nat.{ℕ, _+_}
 use lib.Dec.{leb}
-use Rattle.paths.specs.Part.{pathsBefore}
+use Rattle.paths.specs.Part.{pathsTo}
 
--- how many stand before, up to a limit, and one more than the limit past it
-unfoldable pub beforeOr : List ℕ → ℕ → ℕ → ℕ
-beforeOr counts w limit = cond (leb (pathsBefore counts w) limit) (pathsBefore counts w) (limit + 1)
+-- how many they are, up to a limit, and one more than the limit past it
+unfoldable pub sumOr : List ℕ → ℕ → ℕ → ℕ
+sumOr counts w limit = cond (leb (pathsTo counts w) limit) (pathsTo counts w) (limit + 1)

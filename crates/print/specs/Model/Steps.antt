@@ -27,11 +27,11 @@ pub record Small (o : OrderRecord) : Type 0 where
   pub some-weight : 1 ≤ o .d
   pub some-counts : o .d ≤ 64
 
--- what is asked to print its row: the counts of 64 weights, and a buffer that every text fits
+-- what is asked to print its row: the counts of 63 weights, and a buffer that every text fits
 pub record ToPrint (o : OrderRecord) (plain undetected text : List ℕ) : Type 0 where
   pub small : Small o
-  pub plain-counts : length plain ≡ 64
-  pub undetected-counts : length undetected ≡ 64
+  pub plain-counts : length plain ≡ 63
+  pub undetected-counts : length undetected ≡ 63
   pub bytes : 4096 ≤ length text
 
 -- the text, with zeros after it

@@ -1,4 +1,4 @@
--- The counts of all weights: from weight 0, whose words begin at place 0.
+-- The counts of all weights: from the first entry on, whose words begin at place 0.
 -- Assumes nothing.
 use borrow.Author.Needs.{needs}
 use Prim.Native.Nat.{zero-le}

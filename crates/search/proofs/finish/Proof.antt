@@ -5,11 +5,14 @@ use borrow.Author.Needs.{needs}
 use Rattle.search.proofs.finish.Statement.{statement}
 use Rattle.search.proofs.finish.Tie as tie
 
+counted-weights-requires : tie.Need-counted-weights-requires
+counted-weights-requires c κs = tt
+
 enum-told : tie.Need-enum-told
 enum-told c = search needs
 
 best-of-requires : tie.Need-best-of-requires
-best-of-requires c κs = search needs
+best-of-requires c κs = rw (c .before .before .before .counted-weights .ensures) (c .before .before .before .before .before .before .before .pre .choose)
 
 answer-requires : tie.Need-answer-requires
 answer-requires c κs = search needs
@@ -20,15 +23,15 @@ enum-known-job c = search needs
 counts-of-requires : tie.Need-counts-of-requires
 unfolding JobFits
 counts-of-requires c κs =
-    let asked = c .before .before .before .before .before .before .before .pre in
+    let asked = c .before .before .before .before .before .before .before .before .pre in
     let degree = asked .choose .degree in
     record {
-      readable = asked .choose .readable;
+      readable = rw (c .before .before .before .before .counted-weights .ensures) (asked .choose .readable);
       divisor = record {
         some-degree = degree .some-degree;
         modulus = record { at-most-12 = degree .at-most-12; degree = rw (c .before .before .job .given .1) at (asked .job-fits) };
       };
-      counts = asked .choose .counts;
+      counts = rw (c .before .before .before .before .counted-weights .ensures) (asked .choose .counts);
     }
 
 found-requires : tie.Need-found-requires
@@ -41,7 +44,7 @@ returns : tie.Need-returns
 unfolding Finished
 returns c =
     let chose = c .before .before .before .best-of in
-    rw (c .before .before .before .before .before .enum-told .given .1) (chose .result, chose .ensures, c .answer .ensures)
+    rw (c .before .before .before .before .before .enum-told .given .1) (chose .result, rw (c .before .before .before .before .before .before .before .counted-weights .ensures) at (chose .ensures), c .answer .ensures)
 
 same-length-2 : tie.Need-same-length-2
 same-length-2 c = search needs
@@ -49,12 +52,13 @@ same-length-2 c = search needs
 returns-2 : tie.Need-returns-2
 unfolding Finished
 returns-2 c =
-    rw (c .before .before .before .before .before .before .job .given .1) (c .before .before .before .counts-of .ensures, c .found .ensures)
+    rw (c .before .before .before .before .before .before .job .given .1) (rw (c .before .before .before .before .before .before .before .before .counted-weights .ensures) at (c .before .before .before .counts-of .ensures), c .found .ensures)
 
 pub finish-spec : {M : Type 1} → statement M
 finish-spec =
     tie.close
     (tie.spec
+    counted-weights-requires
     enum-told
     best-of-requires
     answer-requires

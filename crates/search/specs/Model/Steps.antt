@@ -1,6 +1,6 @@
 -- What the parts of the two calls compute (a model): what the listing answered, what is done with the listed paths, and the answer.
 -- Assumes nothing.
-use Prim.Native.Nat.{ℕ, _≤_}
+use Prim.Native.Nat.{ℕ, _-_, _≤_}
 use mathlib.Core.Path.{_≡_}
 use mathlib.Core.Bool.{cond}
 use mathlib.Core.List.{List}
@@ -53,13 +53,13 @@ unfoldable pub JobFits : Job → ℕ → Type 0
 JobFits J.Choose m = Unit {0}
 JobFits (J.Count p) m = HasDegree m p
 
--- what a job leaves of the undetected list and answers, once the paths are listed
-unfoldable pub Finished : Job → (m d : ℕ) → Listed → (table plain before after : List ℕ) → Searched → Type 0
-Finished J.Choose m d c table plain before after r = (x : Outcome) × Chose m d table plain before after x × (r ≡ answerOf c x)
-Finished (J.Count p) m d c table plain before after r = (after ≡ countedFrom m p table plain 0 d before) × (r ≡ foundOf c p)
+-- what a job leaves of the undetected list, of so many entries, and answers, once the paths are listed
+unfoldable pub Finished : Job → (m entries : ℕ) → Listed → (table plain before after : List ℕ) → Searched → Type 0
+Finished J.Choose m entries c table plain before after r = (x : Outcome) × Chose m entries table plain before after x × (r ≡ answerOf c x)
+Finished (J.Count p) m entries c table plain before after r = (after ≡ countedFrom m p table plain 0 entries before) × (r ≡ foundOf c p)
 
-pub record ToFinish (job : Job) (bits m d : ℕ) (table plain undetected : List ℕ) : Type 0 where
-  pub choose : ToChoose bits d m table plain undetected
+pub record ToFinish (job : Job) (bits m entries : ℕ) (table plain undetected : List ℕ) : Type 0 where
+  pub choose : ToChoose bits entries m table plain undetected
   pub job-fits : JobFits job m
 
 unfoldable pub jobDone : Job → (longer o : Order) → SearchTables → Answer Found × SearchTables
@@ -74,7 +74,7 @@ pub record ToRun (job : Job) (longer o : Order) (plain undetected work : List �
   pub collected : Accepted longer
   pub order : AcceptedWhole o
   pub no-longer : NoLonger o longer
-  pub plain-room : o .d ≤ length plain
-  pub undetected-room : o .d ≤ length undetected
+  pub plain-room : o .d - 1 ≤ length plain
+  pub undetected-room : o .d - 1 ≤ length undetected
   pub wide : workSize ≤ length work
   pub job-fits : JobFits job (o .m)

@@ -32,13 +32,13 @@ past-7 : (c : tie.Else3) → Past 3 (c .before .before .before .before .before .
 unfolding rowQuestions
 past-7 c = past-3 (c .before .before) ∙ firstNo-yes _ _ (sym (c .before .from-to3 .ensures) ∙ not-false _ (c .if3 .left))
 
-past-plain : (c : tie.Else4) → Past 4 (c .before .before .before .before .before .before .before)
+past-plain : (c : tie.Else4) → Past 4 (c .before .before .before .before .before .before .before .before)
 unfolding rowQuestions
-past-plain c = past-7 (c .before) ∙ firstNo-yes _ _ (le-leb _ _ (c .if4 .left))
+past-plain c = past-7 (c .before .before) ∙ firstNo-yes _ _ (le-leb _ _ (rw (c .before .counted-weights .ensures) at (c .if4 .left)))
 
-past-undetected : (c : tie.Else5) → Past 5 (c .before .before .before .before .before .before .before .before)
+past-undetected : (c : tie.Else5) → Past 5 (c .before .before .before .before .before .before .before .before .before)
 unfolding rowQuestions
-past-undetected c = past-plain (c .before) ∙ firstNo-yes _ _ (le-leb _ _ (c .if5 .left))
+past-undetected c = past-plain (c .before) ∙ firstNo-yes _ _ (le-leb _ _ (rw (c .before .before .counted-weights .ensures) at (c .if5 .left)))
 
 -- ---- the needs
 
@@ -63,13 +63,16 @@ returns-3 : tie.Need-returns-3
 unfolding rowQuestions
 returns-3 c = sym (past-3 (c .before .before) ∙ firstNo-no _ _ (sym (c .before .from-to3 .ensures) ∙ not-true _ (c .if3 .taken)))
 
+counted-weights-requires : tie.Need-counted-weights-requires
+counted-weights-requires c κs = search needs
+
 returns-4 : tie.Need-returns-4
 unfolding rowQuestions
-returns-4 c = sym (past-7 (c .before) ∙ firstNo-no _ _ (lt-leb _ _ (c .if4 .taken)))
+returns-4 c = sym (past-7 (c .before .before) ∙ firstNo-no _ _ (lt-leb _ _ (rw (c .before .counted-weights .ensures) at (c .if4 .taken))))
 
 returns-5 : tie.Need-returns-5
 unfolding rowQuestions
-returns-5 c = sym (past-plain (c .before) ∙ firstNo-no _ _ (lt-leb _ _ (c .if5 .taken)))
+returns-5 c = sym (past-plain (c .before) ∙ firstNo-no _ _ (lt-leb _ _ (rw (c .before .before .counted-weights .ensures) at (c .if5 .taken))))
 
 returns-6 : tie.Need-returns-6
 unfolding textSize rowQuestions
@@ -89,6 +92,7 @@ ask-row-spec =
     returns-2
     from-to-requires-3
     returns-3
+    counted-weights-requires
     returns-4
     returns-5
     returns-6

@@ -1,8 +1,11 @@
 -- The parts of the row, one after another.
 -- Assumes nothing.
 use native.Mathlib.Omega.{arith}
-use Rattle.text.specs.Text.{wEVENTS, wPATHS, rowText}
-use Rattle.text.proofs.Puts.{put-most, joined}
+use mathlib.Core.Path.{ap}
+use mathlib.Core.List.{flatMap}
+use Rattle.lists.specs.Lists.{upFrom}
+use Rattle.text.specs.Text.{wEVENTS, wPATHS, countLine, rowText}
+use Rattle.text.proofs.Puts.{put-as, put-most, joined}
 use Rattle.order.specs.Answers.{orderIn}
 use borrow.Author.Needs.{needs}
 use Rattle.text.proofs.put_row.Statement.{statement}
@@ -42,9 +45,13 @@ slice-aggregate-put-line-4 c = search needs
 put-line-requires-2 : tie.Need-put-line-requires-2
 put-line-requires-2 c κs = omega arith
 
+counted-weights-requires : tie.Need-counted-weights-requires
+counted-weights-requires c κs = search needs
+
 put-counts-requires : tie.Need-put-counts-requires
 put-counts-requires c κs =
-    record { counts = start (c .before .before .before) .pre .counts; room = omega arith }
+    let counts = start (c .before .before .before .before) .pre .counts in
+    record { counts = rw (c .before .counted-weights .ensures) counts; room = omega (arith, c .before .counted-weights .ensures, counts) }
 
 put-polynomial-requires : tie.Need-put-polynomial-requires
 put-polynomial-requires c κs = omega arith
@@ -57,8 +64,11 @@ unfolding wEVENTS wPATHS rowText orderIn
 returns c =
     let polynomial = c .before .before in
     let weights = polynomial .before .before .before .before in
-    let paths = weights .before .before .before .before in
-    let lines = joined (weights .put-counts .ensures) (polynomial .put-polynomial .ensures) in
+    let entries = weights .before .before .counted-weights .ensures in
+    let paths = weights .before .before .before .before .before in
+    let a = start paths .args in
+    let counted = put-as (ap (λ n. flatMap (countLine (a .plain .now) (a .undetected .now)) (upFrom 1 n)) entries) (weights .put-counts .ensures) in
+    let lines = joined counted (polynomial .put-polynomial .ensures) in
     let all = joined (order paths .put-order .ensures) (joined (events paths .put-line .ensures) (joined (paths .put-line2 .ensures) lines)) in
     let counts = start paths .pre .counts in
     put-most 4096 all (omega (arith, all .short))
@@ -74,6 +84,7 @@ put-row-spec =
     slice-aggregate-put-line-3
     slice-aggregate-put-line-4
     put-line-requires-2
+    counted-weights-requires
     put-counts-requires
     put-polynomial-requires
     same-length

@@ -1,6 +1,6 @@
 -- What one step of writing a text asks and leaves (a model): bytes stored from a place on, no more than so many, and the place after them.
 -- Assumes nothing.
-use Prim.Native.Nat.{ℕ, _+_, _≤_}
+use Prim.Native.Nat.{ℕ, _+_, _-_, _≤_}
 use mathlib.Core.Path.{_≡_}
 use mathlib.Core.List.{List, _∷_, flatMap}
 use lib.ListN.{length}
@@ -20,21 +20,21 @@ pub record ToPut (least base at most size : ℕ) : Type 0 where
   pub at-most-16 : base ≤ 16
   pub room : at + most ≤ size
 
--- both counts of every weight below d
-pub record Counts (d plain undetected : ℕ) : Type 0 where
-  pub at-most-64 : d ≤ 64
-  pub plain-counts : d ≤ plain
-  pub undetected-counts : d ≤ undetected
+-- so many entries of both counts: entry k is of weight k + 1, which has two digits at most
+pub record Counts (entries plain undetected : ℕ) : Type 0 where
+  pub at-most-63 : entries ≤ 63
+  pub plain-counts : entries ≤ plain
+  pub undetected-counts : entries ≤ undetected
 
 -- and room for the lines of some of them
-pub record ToPutCounts (d plain undetected at most size : ℕ) : Type 0 where
-  pub counts : Counts d plain undetected
+pub record ToPutCounts (entries plain undetected at most size : ℕ) : Type 0 where
+  pub counts : Counts entries plain undetected
   pub room : at + most ≤ size
 
 -- a row of n generators: what questions 3, 7 and 10 let the call assume
 pub record RowAccepted (n d plain undetected size : ℕ) : Type 0 where
   pub at-most-4 : n ≤ 4
-  pub counts : Counts d plain undetected
+  pub counts : Counts (d - 1) plain undetected
   pub bytes : 4096 ≤ size
 
 -- ---- what is put

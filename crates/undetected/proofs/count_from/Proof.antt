@@ -1,4 +1,4 @@
--- The invariant: the words of weight w begin at the place reached, and the counts of the weights before w stand in the list.
+-- The invariant: the words of entry w begin at the place reached, and the counts of the entries before w stand in the list.
 -- Assumes nothing.
 use borrow.Author.Needs.{needs}
 use mathlib.Core.Path.{_≡_, ap, _∙_}
@@ -6,24 +6,24 @@ use mathlib.Core.List.{List}
 use Prim.Native.Nat.{ℕ, _+_, _-_, _≤_, _<_}
 use native.Mathlib.Omega.{arith}
 use lib.ListN.{length, getD, set}
-use Rattle.paths.specs.Part.{pathsBefore}
+use Rattle.paths.specs.Part.{pathsTo}
 use Rattle.undetected.specs.Model.Steps.{countedFrom}
 use Rattle.undetected.proofs.Counted.{before-next, before-end, counted-weight, counted-none, length-counted, counted-next}
 use Rattle.undetected.proofs.count_from.Statement.{statement}
 use Rattle.undetected.proofs.count_from.Tie as tie
 
-record Counted (table plain undetected₀ : List ℕ) (m p first d : ℕ) (undetected : List ℕ) (at w : ℕ) : Type 0 where
+record Counted (table plain undetected₀ : List ℕ) (m p first entries : ℕ) (undetected : List ℕ) (at w : ℕ) : Type 0 where
   begun : first ≤ w
-  within : w ≤ d
-  placed : at ≡ pathsBefore plain w
+  within : w ≤ entries
+  placed : at ≡ pathsTo plain w
   so-far : undetected ≡ countedFrom m p table plain first w undetected₀
 
 abbrev Inv-loop : tie.InvT-loop
-Inv-loop table plain undetected₀ bits m p first d start rows at₀ w₀ undetected at w =
-    Counted table plain undetected₀ m p first d undetected at w
+Inv-loop table plain undetected₀ bits m p first entries start rows at₀ w₀ undetected at w =
+    Counted table plain undetected₀ m p first entries undetected at w
 
 abbrev μ-loop : tie.MeasureT-loop
-μ-loop table plain undetected₀ bits m p first d start rows at₀ w₀ undetected at w = d - w
+μ-loop table plain undetected₀ bits m p first entries start rows at₀ w₀ undetected at w = entries - w
 
 abbrev At : Type 0
 At = tie.At-loop Inv-loop μ-loop
@@ -37,9 +37,9 @@ long-at l =
     let i = l .loop .inv in
     ap length (i .so-far) ∙ length-counted _ _ _ _ _ (l .loop .w) _ (i .begun) (omega (arith, i .within, start l .pre .each .counts))
 
--- the words of weight w end where those of all weights end, or before
-ends-at : (l : At) → l .loop .w < start l .args .d
-    → l .loop .at + getD (start l .args .plain .now) (l .loop .w) 0 ≤ pathsBefore (start l .args .plain .now) (start l .args .d)
+-- the words of entry w end where those of all end, or before
+ends-at : (l : At) → l .loop .w < start l .args .entries
+    → l .loop .at + getD (start l .args .plain .now) (l .loop .w) 0 ≤ pathsTo (start l .args .plain .now) (start l .args .entries)
 ends-at l h = before-end _ (l .loop .w) _ (l .loop .at) h (l .loop .inv .placed)
 
 check-table-requires : tie.Need-check-table-requires Inv-loop μ-loop
@@ -110,7 +110,7 @@ same-length c = long-at (c .before)
 returns : tie.Need-returns Inv-loop μ-loop
 returns c =
     let l = c .before in
-    let all : l .loop .w ≡ start l .args .d = omega arith in
+    let all : l .loop .w ≡ start l .args .entries = omega arith in
     rw all at (l .loop .inv .so-far)
 
 pub count-from-spec : {M : Type 1} → statement M

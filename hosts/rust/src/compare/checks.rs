@@ -70,7 +70,7 @@ pub fn strip(inputs: u64) -> Tally {
         });
         let same = answer == expected && safe == plain;
         if expected.value != 0 {
-            tally.count_kind();
+            tally.count_kind("damaged");
         }
         tally.count(expected.refusal, same, || {
             format!("{i:?}: library {answer:?} {safe:?}, second tool {expected:?}")
@@ -93,7 +93,7 @@ pub fn test(inputs: u64) -> Tally {
         let safe = dohvrin::test(i.bits, i.m, i.polynomial, i.word).map_err(|no| no.number());
         let same = answer == expected && safe == plain;
         if expected.value != 0 {
-            tally.count_kind();
+            tally.count_kind("divisible");
         }
         tally.count(expected.refusal, same, || {
             format!("{i:?}: library {answer:?} {safe:?}, second tool {expected:?}")

@@ -13,6 +13,9 @@ const FILL: u8 = 0xA5;
 const GUARD: u8 = 0x3C;
 const GUARDS: usize = 64;
 
+/// The kind of words that are taken whatever m and d are.
+const WRONG: &str = "with m and d wrong";
+
 /// What a call takes of a code, and a word: the first n generators; the others
 /// stand behind them in the order and must not matter. No more do m and d, where
 /// a call does not ask about them.
@@ -99,8 +102,7 @@ pub fn first(generators: &[u64; 4], n: u64) -> &[u64] {
 
 pub fn weigh(inputs: u64) -> Tally {
     let mut random = Random::new(0x3E16);
-    let mut tally =
-        Tally::of_links("weigh", &[2, 3, 4, 5, 8, 9, 16, 12]).with_kind("with m and d wrong");
+    let mut tally = Tally::of_links("weigh", &[2, 3, 4, 5, 8, 9, 16, 12]).with_kind(WRONG);
     for _ in 0..inputs {
         let i = draw(&mut random);
         let plain = link::weight(i.code(), i.word)
@@ -114,7 +116,7 @@ pub fn weigh(inputs: u64) -> Tally {
         let safe = dohvrin::weigh(i.given(), i.word).map_err(|no| no.number());
         let same = answer == expected && safe == plain;
         if plain.is_ok() && i.wrong_degree() && i.wrong_threshold() {
-            tally.count_kind();
+            tally.count_kind(WRONG);
         }
         tally.count_of(i.version, expected.refusal, same, || {
             format!("{i:?}: library {answer:?} {safe:?}, second tool {expected:?}")
@@ -125,15 +127,14 @@ pub fn weigh(inputs: u64) -> Tally {
 
 pub fn encode(inputs: u64) -> Tally {
     let mut random = Random::new(0xE4C0DE);
-    let mut tally =
-        Tally::of_links("encode", &[2, 3, 4, 5, 8, 9, 16, 10, 12]).with_kind("with m and d wrong");
+    let mut tally = Tally::of_links("encode", &[2, 3, 4, 5, 8, 9, 16, 10, 12]).with_kind(WRONG);
     for _ in 0..inputs {
         let i = draw(&mut random);
         let room = draw_room(&mut random, &i);
         let plain = link::encode(i.code(), i.word, room).map_err(number);
         let refusal = plain.as_ref().err().copied().unwrap_or(0);
         if plain.is_ok() && i.wrong_degree() && i.wrong_threshold() {
-            tally.count_kind();
+            tally.count_kind(WRONG);
         }
         let expected = output_after(plain.ok(), room);
         let before = 1 + random.index(GUARDS);

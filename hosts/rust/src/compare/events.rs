@@ -41,7 +41,7 @@ pub fn collect(inputs: u64) -> Tally {
         call.entries = draw_entries(&mut random, all.as_ref().map_or(ENTRIES, Vec::len));
         let plain = events::collect(code, size(call.d), call.entries, call.work).map_err(number);
         if plain.is_ok() && call.input.wrong_degree() {
-            tally.count_kind();
+            tally.count_kind("with m wrong");
         }
         compare(&mut tally, &call, plain.as_deref().map_err(|no| *no));
     }

@@ -138,13 +138,36 @@ pub fn draw_sizes(random: &mut Random, tables: &Tables) -> Vec<Sizes> {
     }
     all.extend([full.with_events(events - 1), full.with_events(0)]);
     let empty = full.with_events(0).with_paths(0);
-    all.push(full.with_counts(counts - 1));
-    all.push(empty.with_counts(random.index(counts)));
+    for short in too_short(random, counts) {
+        all.extend([full.with_counts(short), empty.with_counts(short)]);
+    }
     all.push(Sizes {
         work: WORK - 1,
         ..full
     });
     all
+}
+
+/// Entries of a list that are too few, where so many are enough: one short, none,
+/// and any. For d = 1 none is too short.
+pub fn too_short(random: &mut Random, enough: usize) -> Vec<usize> {
+    match enough {
+        0 => Vec::new(),
+        _ => vec![enough - 1, 0, random.index(enough)],
+    }
+}
+
+/// Entries of a list of counts: as many as a threshold asks for, more, and three
+/// times in so many one short, none, or any.
+pub fn draw_counts(random: &mut Random, d: u64, times: u64) -> usize {
+    let enough = size(d.clamp(1, 64)) - 1;
+    match random.within(1, times) {
+        1 => enough.saturating_sub(1),
+        2 => 0,
+        3 => random.index(64),
+        few if few <= 2 * times / 3 => enough,
+        _ => enough + random.index(40),
+    }
 }
 
 /// Code, threshold, counts and work area right or damaged; the sizes of the
@@ -154,6 +177,7 @@ pub fn draw(random: &mut Random) -> (Input, u64, Sizes) {
         0 => random.pick(&[0, 65, 66, 128]),
         1 => random.huge(5),
         2..=4 => random.within(1, 64),
+        5 => 1,
         _ => random.within(1, 14),
     };
     let work = match random.within(0, 15) {
@@ -162,17 +186,10 @@ pub fn draw(random: &mut Random) -> (Input, u64, Sizes) {
         2..=12 => WORK,
         _ => WORK + random.index(1000),
     };
-    let enough = size(d.min(64));
-    let counts = match random.within(0, 15) {
-        0 => enough.saturating_sub(1),
-        1 => random.index(64),
-        2..=9 => enough,
-        _ => enough + random.index(40),
-    };
     let lent = Sizes {
         events: 0,
         paths: 0,
-        counts,
+        counts: draw_counts(random, d, 16),
         work,
     };
     (codes::draw(random), d, lent)
@@ -199,13 +216,16 @@ pub fn any_tables(random: &mut Random, lent: &mut Sizes) {
 }
 
 /// A right code of at most `most` steps, and a threshold. Every fourth has no
-/// more steps than memory.
+/// more steps than memory, and every eighth no weight below its threshold.
 pub fn draw_small(random: &mut Random, most: u64) -> (Input, u64) {
     let mut input = codes::right(random);
     input.bits = match random.within(0, 3) {
         0 => input.v,
         _ => random.within(input.v, most),
     };
-    let most = random.pick(&[12, 64]);
+    let most = match random.within(0, 7) {
+        0 => 1,
+        _ => random.pick(&[12, 64]),
+    };
     (input, random.within(1, most))
 }

@@ -13,10 +13,13 @@ use dso_ref::{Failure, Lent, Method, Order};
 /// The greatest length at which the second tool takes all words too.
 const SHORT: usize = 10;
 
+/// The kind of rows that d = 1 gives.
+const WITHOUT_COUNTS: &str = "without counts";
+
 pub fn orders(inputs: u64) -> Tally {
     let mut random = Random::new(0x08DE85);
     let asked = &[1, 2, 3, 4, 5, 6, 7, 8, 9, 16, 13, 14, 15];
-    let mut tally = Tally::of_links("orders by record", asked);
+    let mut tally = Tally::of_links("orders by record", asked).with_kind(WITHOUT_COUNTS);
     // The same for every order in turn: they hold what the last one left.
     let mut tables = lend(Lent::default());
     for _ in 0..inputs {
@@ -25,6 +28,9 @@ pub fn orders(inputs: u64) -> Tally {
         let bytes = &bytes[..size];
         let (refusal, expected) = second(bytes);
         let text = answer(&mut tables, bytes, Asked::Best);
+        if refusal == 0 && !expected.contains("\nA ") {
+            tally.count_kind(WITHOUT_COUNTS);
+        }
         let version = records::version_in(bytes);
         tally.count_of(version, refusal, text == expected, || {
             let shown = &bytes[..size.min(40)];

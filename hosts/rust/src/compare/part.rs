@@ -7,18 +7,26 @@ use crate::tally::Tally;
 use dohvrin::calls::{self, Part};
 use dso_ref::listing;
 
+/// Kinds of weights, of which the first two are accepted.
+const NOT_EMPTY: &str = "not empty";
+const LAST: &str = "of the last weight";
+const ZERO: &str = "of weight 0";
+const AFTER: &str = "of the weight after the last";
+const FAR: &str = "of weights far above";
+
 /// Any counts, right ones and others, over small tables.
 pub fn part(inputs: u64) -> Tally {
     let mut random = Random::new(0x9A87);
-    let mut tally = Tally::new("part", &[10]).with_kind("not empty");
+    let mut tally = Tally::new("part", &[10])
+        .with_kind(NOT_EMPTY)
+        .with_kind(LAST)
+        .with_kind_of(10, ZERO)
+        .with_kind_of(10, AFTER)
+        .with_kind_of(10, FAR);
     for _ in 0..inputs {
         let paths: Vec<u64> = (0..random.index(80)).map(u64::any).collect();
         let counts = draw_counts(&mut random, paths.len() / 2);
-        let weight = match random.within(0, 15) {
-            0 => random.huge(counts.len() as u64),
-            1 => counts.len() as u64,
-            _ => random.within(0, counts.len() as u64),
-        };
+        let weight = draw_weight(&mut random, counts.len() as u64);
         let plain = listing::part(paths.len(), &counts, weight).map_err(number);
         let expected = Part {
             refusal: plain.as_ref().err().copied().unwrap_or(0),
@@ -28,9 +36,7 @@ pub fn part(inputs: u64) -> Tally {
         let answer = calls::part(&paths, &counts, weight);
         let safe = dohvrin::part(&paths, &counts, weight).map_err(|no| no.number());
         let same = answer == expected && safe == plain.map(|part| &paths[part]);
-        if expected.numbers > 0 {
-            tally.count_kind();
-        }
+        count_kinds(&mut tally, counts.len() as u64, weight, expected);
         tally.count(expected.refusal, same, || {
             format!(
                 "{} numbers, {counts:?}, weight {weight}: \
@@ -40,6 +46,31 @@ pub fn part(inputs: u64) -> Tally {
         });
     }
     tally
+}
+
+fn count_kinds(tally: &mut Tally, last: u64, weight: u64, expected: Part) {
+    if expected.numbers > 0 {
+        tally.count_kind(NOT_EMPTY);
+    }
+    match weight {
+        0 => tally.count_kind(ZERO),
+        _ if weight > last + 1 => tally.count_kind(FAR),
+        _ if weight > last => tally.count_kind(AFTER),
+        _ if weight == last && expected.refusal == 0 => tally.count_kind(LAST),
+        _ => {}
+    }
+}
+
+/// A weight that has a count, mostly; or 0, the last, the one after it, one far
+/// above.
+fn draw_weight(random: &mut Random, last: u64) -> u64 {
+    match random.within(0, 15) {
+        0 => 0,
+        1 => last,
+        2 => last + 1,
+        3 => random.huge(last),
+        _ => random.within(1, last.max(1)),
+    }
 }
 
 /// Counts that fill a table of so many paths, or do not, or pass 64 bits.

@@ -40,8 +40,9 @@ type Expected<'a> = Result<&'a Tables, u64>;
 /// Any inputs, right and damaged, of any length.
 pub fn list(inputs: u64) -> Tally {
     let mut random = Random::new(0x115794);
-    let mut tally =
-        Tally::of_links("list", &[2, 3, 4, 5, 7, 8, 9, 16, 10, 13, 14]).with_kind("with m wrong");
+    let mut tally = Tally::of_links("list", &[2, 3, 4, 5, 7, 8, 9, 16, 10, 13, 14])
+        .with_kind("with m wrong")
+        .with_lists();
     for _ in 0..inputs {
         let (input, d, lent) = draw(&mut random);
         let mut call = Call { input, d, lent };
@@ -69,7 +70,7 @@ pub fn list(inputs: u64) -> Tally {
             Ok(paths) => {
                 let tables = Tables::new(input, d, events, paths);
                 if tables.within(call.lent).is_ok() && input.wrong_degree() {
-                    tally.count_kind();
+                    tally.count_kind("with m wrong");
                 }
                 compare_listed(&mut tally, &tables, call.lent);
             }
@@ -82,8 +83,9 @@ pub fn list(inputs: u64) -> Tally {
 /// each with tables exactly full, one short, empty, odd, larger, far larger.
 pub fn small_tables(orders: u64) -> Tally {
     let mut random = Random::new(0x5A11A);
-    let mut tally =
-        Tally::of_links("small path tables", &[10, 13, 14]).with_kind("orders of N = v");
+    let mut tally = Tally::of_links("small path tables", &[10, 13, 14])
+        .with_kind("orders of N = v")
+        .with_lists();
     for order in 0..orders {
         // Of the longest words there are a great many.
         let most = if order % 100 == 99 {
@@ -94,7 +96,7 @@ pub fn small_tables(orders: u64) -> Tally {
         let (input, d) = draw_small(&mut random, most as u64);
         let tables = Tables::small(input, d);
         if input.bits == input.v {
-            tally.count_kind();
+            tally.count_kind("orders of N = v");
         }
         for lent in draw_sizes(&mut random, &tables) {
             compare_listed(&mut tally, &tables, lent);
@@ -197,6 +199,7 @@ fn compare(tally: &mut Tally, call: &Call, expected: Expected) {
     let (raw, raw_left) = Lent::new(call.lent).raw(call, expected);
     let (safe, safe_left) = Lent::new(call.lent).safe(call, expected);
     let same = raw == answer && safe == plain && raw_left && safe_left;
+    tally.count_lists(refusal, call.d, &[call.lent.counts]);
     tally.count_of(call.input.version, refusal, same, || {
         format!(
             "{call:?}: library {raw:?} {safe:?}, second tool {answer:?}, \

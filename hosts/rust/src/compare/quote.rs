@@ -55,7 +55,9 @@ fn draw_length(random: &mut Random, call: &Call) -> u64 {
 pub fn small_tables(orders: u64) -> Tally {
     let mut random = Random::new(0x5A11D);
     let asked = &[2, 5, 6, 10, 13, 14, 15];
-    let mut tally = Tally::new("small quotes", asked).with_kind(LONGER);
+    let mut tally = Tally::new("small quotes", asked)
+        .with_kind(LONGER)
+        .with_lists();
     let mut done = 0;
     while done < orders {
         // Of the longest words there are a great many.
@@ -66,7 +68,7 @@ pub fn small_tables(orders: u64) -> Tally {
             continue;
         }
         input.version = Link::TailBiting.version();
-        let few = random.pick(&[2, 5, 12]);
+        let few = random.pick(&[1, 2, 5, 12]);
         let m = random.within(1, few.min(input.bits - 1));
         let events = small_events(input, d);
         let Input { v, bits, .. } = input;
@@ -99,7 +101,7 @@ fn every_size(
         m,
         d,
         asked: Asked::Quote(length),
-        lent: full(&longer, d),
+        lent: full(&longer),
     };
     // Lent to a quote that is refused before 13.
     call.lent.listing.paths = random.index(40);
@@ -113,7 +115,7 @@ fn every_size(
         events: events.to_vec(),
         ..own
     };
-    for lent in sizes(random, &tables, full(&tables, d)) {
+    for lent in sizes(random, &tables, full(&tables)) {
         compare_quote(tally, &Call { lent, ..call }, &tables, &best);
     }
 }
@@ -122,7 +124,7 @@ fn compare_quote(tally: &mut Tally, call: &Call, tables: &Tables, best: &Best) {
     let expected = within(call, tables, best);
     let accepted = expected.is_ok() && best.who.len() == 1;
     if accepted && tables.told < tables.events.len() {
-        tally.count_kind();
+        tally.count_kind(LONGER);
     }
     compare(tally, call, expected);
 }
@@ -207,7 +209,7 @@ fn long_quote(
         m,
         d,
         asked: Asked::Quote(length),
-        lent: full(&tables, d),
+        lent: full(&tables),
     };
     let told = call.told(events.len());
     let tables = Tables { told, ..tables };
@@ -246,7 +248,7 @@ pub fn shorter_events(orders: u64) -> Tally {
             let expected: Vec<Event> = fitting.copied().collect();
             let own = collected(short, d);
             if expected.len() < all.len() {
-                tally.count_kind();
+                tally.count_kind("without longer ones");
             }
             let same = own.as_ref() == Some(&expected);
             tally.count_of(input.version, 0, same, || {

@@ -38,13 +38,8 @@ pub fn count(inputs: u64) -> Tally {
 }
 
 /// Any calls, in each of which `ask` says what is asked for.
-pub fn any(
-    inputs: u64,
-    mut tally: Tally,
-    seed: u64,
-    ask: impl Fn(&mut Random, &mut Call),
-) -> Tally {
-    let mut random = Random::new(seed);
+pub fn any(inputs: u64, tally: Tally, seed: u64, ask: impl Fn(&mut Random, &mut Call)) -> Tally {
+    let (mut random, mut tally) = (Random::new(seed), tally.with_lists());
     for _ in 0..inputs {
         let mut call = draw(&mut random);
         ask(&mut random, &mut call);
@@ -93,7 +88,8 @@ pub fn any(
 pub fn small_tables(orders: u64) -> Tally {
     let mut random = Random::new(0x5A11C);
     let mut tally = Tally::of_links("small searches and counts", &[10, 11, 13, 14, 15])
-        .with_kind("orders of N = v");
+        .with_kind("orders of N = v")
+        .with_lists();
     let mut done = 0;
     while done < orders {
         // Of the longest words there are a great many.
@@ -105,10 +101,10 @@ pub fn small_tables(orders: u64) -> Tally {
         let m = random.within(1, 12.min(input.bits - 1));
         let tables = Tables::small(input, d);
         if input.bits == input.v {
-            tally.count_kind();
+            tally.count_kind("orders of N = v");
         }
         for asked in [Asked::Best, Asked::Of(right_polynomial(&mut random, m))] {
-            let full = full(&tables, d);
+            let full = full(&tables);
             let call = Call {
                 input,
                 m,
@@ -158,7 +154,7 @@ pub fn long_tables(orders: u64) -> Tally {
         }
         let tables = Tables::new(input, d, events.iter().map(entry_of).collect(), paths);
         for asked in [Asked::Best, Asked::Of(right_polynomial(&mut random, m))] {
-            let full = full(&tables, d);
+            let full = full(&tables);
             let call = Call {
                 input,
                 m,
@@ -205,11 +201,14 @@ fn large(tally: &mut Tally, tables: &Tables, m: u64, d: u64, polynomial: u64) {
         m,
         d,
         asked: Asked::Of(polynomial),
-        lent: full(tables, d),
+        lent: full(tables),
     };
     let mut table = Table::new(&call.order().expect("a right order"));
     let counts = tables.counts.iter().map(|&count| u128::from(count));
-    assert!(counts.eq(table.plain(size(d))), "{call:?}: plain counts");
+    assert!(
+        counts.eq(table.plain(size(d) - 1)),
+        "{call:?}: plain counts"
+    );
     let best = call.best(&mut table);
     call.asked = Asked::Best;
     compare(tally, &call, Ok((tables, &best)));
@@ -218,7 +217,7 @@ fn large(tally: &mut Tally, tables: &Tables, m: u64, d: u64, polynomial: u64) {
 /// What `list` leaves.
 fn listed(input: Input, d: u64, events: usize, paths: usize) -> Tables {
     let mut table = vec![Event::default(); events];
-    let (mut numbers, mut counts) = (vec![0; 2 * paths], vec![0; size(d)]);
+    let (mut numbers, mut counts) = (vec![0; 2 * paths], vec![0; size(d) - 1]);
     let work = &mut [0; WORK];
     let answer = dohvrin::list(input.below(d), &mut table, &mut numbers, &mut counts, work);
     assert_eq!(answer, Ok(Listed { events, paths }), "{input:?}");

@@ -3,7 +3,7 @@
 
 use crate::codes::Input;
 use crate::guards::Guarded;
-use crate::listed::{self, Tables};
+use crate::listed::{self, draw_counts, too_short, Tables};
 use crate::paths;
 use crate::random::Random;
 use crate::tally::Tally;
@@ -92,7 +92,7 @@ impl Call {
 
     /// The best counts, or those of the call's polynomial.
     pub fn best(&self, counter: &mut impl Counter) -> Best {
-        let plain = counter.plain(size(self.d));
+        let plain = counter.plain(size(self.d) - 1);
         match self.asked {
             Asked::Of(p) => Best {
                 counts: counter.undetected(p, plain.len()),
@@ -133,6 +133,8 @@ pub fn compare(tally: &mut Tally, call: &Call, expected: Expected) {
     let (raw_left, as_fresh) = (lent.is_left(expected), lent.is_fresh(call, raw));
     let (safe, safe_left) = Lent::new(call.lent).safe(call, expected);
     let same = raw == answer && safe == plain && raw_left && safe_left && as_fresh;
+    let lists = [call.lent.listing.counts, call.lent.undetected];
+    tally.count_lists(answer.refusal, call.d, &lists);
     tally.count_of(call.input.version, answer.refusal, same, || {
         format!(
             "{call:?}: library {raw:?} {safe:?}, second tool {answer:?}, \
@@ -259,10 +261,11 @@ impl Lent {
 }
 
 /// Tables that are exactly full.
-pub fn full(tables: &Tables, d: u64) -> Sizes {
+pub fn full(tables: &Tables) -> Sizes {
+    let listing = tables.sizes();
     Sizes {
-        listing: tables.sizes(),
-        undetected: size(d),
+        listing,
+        undetected: listing.counts,
     }
 }
 
@@ -277,8 +280,7 @@ pub fn draw_sizes(random: &mut Random, tables: &Tables, full: Sizes) -> Vec<Size
             undetected: full.undetected + size(more),
         });
     }
-    let short = full.undetected - 1;
-    for undetected in [short, random.index(full.undetected)] {
+    for undetected in too_short(random, full.undetected) {
         all.push(Sizes { undetected, ..full });
         let mut small = Sizes { undetected, ..full };
         small.listing.events = 0;
@@ -297,15 +299,11 @@ pub fn draw(random: &mut Random) -> Call {
         0 => random.pick(&[0, 13, 14, 64, 65, 128]),
         1 => random.huge(most),
         2 => input.bits.min(12),
+        // Where there is no weight, only a single candidate is best.
+        3..=15 if d == 1 => 1,
         _ => random.within(1, most),
     };
-    let enough = size(d.min(64));
-    let undetected = match random.within(0, 23) {
-        0 => enough.saturating_sub(1),
-        1 => random.index(64),
-        2..=14 => enough,
-        _ => enough + random.index(40),
-    };
+    let undetected = draw_counts(random, d, 24);
     Call {
         input,
         m,

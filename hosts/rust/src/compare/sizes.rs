@@ -58,7 +58,7 @@ fn compare(tally: &mut Tally, input: &Input, d: u64, needed: Entries) {
     let Entries { events, paths } = needed;
     let listed = list(input, d, events, paths);
     if input.bits == input.v {
-        tally.count_kind();
+        tally.count_kind("of orders of N = v");
     }
     let all = Ok(Listed { events, paths });
     let version = input.version;
@@ -80,7 +80,7 @@ fn told(input: &Input, d: u64, needed: Entries, listed: Result<Listed, Refusal>)
 /// What the library lists into tables of so many entries.
 fn list(input: &Input, d: u64, events: usize, paths: usize) -> Result<Listed, Refusal> {
     let mut table = vec![Event::default(); events];
-    let (mut numbers, mut counts) = (vec![0; 2 * paths], vec![0; size(d)]);
+    let (mut numbers, mut counts) = (vec![0; 2 * paths], vec![0; size(d) - 1]);
     let work = &mut [0; WORK];
     dohvrin::list(input.below(d), &mut table, &mut numbers, &mut counts, work)
 }

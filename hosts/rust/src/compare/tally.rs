@@ -1,5 +1,6 @@
 //! What one family of calls has shown: how many inputs, what became of them.
 
+use crate::size;
 use dohvrin::Link;
 
 /// Failures that are printed in full.
@@ -7,6 +8,11 @@ const SHOWN: u64 = 10;
 
 /// Questions that refuse before the kind of link is known.
 const WITHOUT_KIND: [u64; 2] = [1, 2];
+
+/// Kinds of calls by their lists of counts.
+const EMPTY_LISTS: &str = "with empty lists";
+const EMPTY_LIST: &str = "with an empty list";
+const SHORT_LIST: &str = "with a list one short";
 
 /// How many inputs, and how many of them of a terminated link.
 #[derive(Clone, Copy, Default)]
@@ -27,6 +33,14 @@ impl Inputs {
     }
 }
 
+/// Inputs of one outcome that are of a kind: some must be, and some not.
+struct Kind {
+    name: &'static str,
+    /// The question that refused them, or 0.
+    outcome: u64,
+    count: u64,
+}
+
 pub struct Tally {
     family: &'static str,
     /// The questions that the call asks: each must have refused some input.
@@ -35,8 +49,7 @@ pub struct Tally {
     /// kinds of it.
     links: bool,
     accepted: Inputs,
-    /// Of the accepted, those of which the call says so: its name, how many.
-    kind: Option<(&'static str, u64)>,
+    kinds: Vec<Kind>,
     /// By the question's number.
     refused: [Inputs; 17],
     pub passed: u64,
@@ -50,7 +63,7 @@ impl Tally {
             asked,
             links: false,
             accepted: Inputs::default(),
-            kind: None,
+            kinds: Vec::new(),
             refused: [Inputs::default(); 17],
             passed: 0,
             failed: 0,
@@ -66,15 +79,49 @@ impl Tally {
     }
 
     /// Of the accepted inputs, some must be of this kind and some not.
-    pub fn with_kind(mut self, name: &'static str) -> Tally {
-        self.kind = Some((name, 0));
+    pub fn with_kind(self, name: &'static str) -> Tally {
+        self.with_kind_of(0, name)
+    }
+
+    /// The same of those that a question refuses, or of the accepted, for 0.
+    pub fn with_kind_of(mut self, outcome: u64, name: &'static str) -> Tally {
+        self.kinds.push(Kind {
+            name,
+            outcome,
+            count: 0,
+        });
         self
     }
 
-    /// One more accepted input of that kind.
-    pub fn count_kind(&mut self) {
-        if let Some((_, count)) = &mut self.kind {
-            *count += 1;
+    /// One more input of this kind, where the family tells of it.
+    pub fn count_kind(&mut self, name: &str) {
+        if let Some(kind) = self.kinds.iter_mut().find(|kind| kind.name == name) {
+            kind.count += 1;
+        }
+    }
+
+    /// Of the accepted calls some must have empty lists of counts, as d = 1 allows;
+    /// of those that question 10 refuses some must have one that is empty, and
+    /// some one that is one entry short.
+    pub fn with_lists(self) -> Tally {
+        self.with_kind(EMPTY_LISTS)
+            .with_kind_of(10, EMPTY_LIST)
+            .with_kind_of(10, SHORT_LIST)
+    }
+
+    /// Counts these kinds of one call, by the entries of its lists.
+    pub fn count_lists(&mut self, refusal: u64, d: u64, lists: &[usize]) {
+        if refusal == 0 && lists.iter().all(|&entries| entries == 0) {
+            self.count_kind(EMPTY_LISTS);
+        }
+        // For d = 1 no list is too short.
+        if refusal == 10 && d > 1 {
+            let short = size(d) - 2;
+            for (entries, kind) in [(0, EMPTY_LIST), (short, SHORT_LIST)] {
+                if lists.contains(&entries) {
+                    self.count_kind(kind);
+                }
+            }
         }
     }
 
@@ -116,11 +163,8 @@ impl Tally {
         print!("{family}: {compared} compared, {accepted} accepted");
         let mut right = accepted > 0 && (self.accepted.both() || !self.links);
         self.print_terminated(self.accepted);
-        if let Some((name, count)) = self.kind {
-            print!(" ({count} {name})");
-            right = right && count > 0 && count < accepted;
-        }
-        for (number, &inputs) in (0..).zip(&self.refused) {
+        right = self.print_kinds(0, accepted) && right;
+        for (number, &inputs) in (0..).zip(&self.refused).skip(1) {
             let asked = self.asked.contains(&number);
             if asked || inputs.all > 0 {
                 print!(", {} refused by {number}", inputs.all);
@@ -130,12 +174,23 @@ impl Tally {
                 self.print_terminated(inputs);
                 right = right && (inputs.both() || !self.links);
             }
+            right = self.print_kinds(number, inputs.all) && right;
         }
         println!();
         if !right {
             println!("{family}: an outcome is missing, or one too many");
             self.failed += 1;
         }
+    }
+
+    /// The kinds of an outcome: whether some of its inputs were of each, and some
+    /// not.
+    fn print_kinds(&self, outcome: u64, inputs: u64) -> bool {
+        let of_outcome = self.kinds.iter().filter(|kind| kind.outcome == outcome);
+        of_outcome.fold(true, |right, &Kind { name, count, .. }| {
+            print!(" ({count} {name})");
+            right && 0 < count && count < inputs
+        })
     }
 
     fn print_terminated(&self, inputs: Inputs) {

@@ -1,6 +1,7 @@
 //! The texts of rows and refusals, of any numbers, in any buffers.
 
 use crate::codes::first;
+use crate::listed::draw_counts;
 use crate::random::Random;
 use crate::tally::Tally;
 use crate::{number, size};
@@ -44,10 +45,15 @@ impl Input {
         questions::kind(self.order.version).map_err(number)?;
         questions::generator_count(generators.len()).map_err(number)?;
         questions::threshold(d).map_err(number)?;
-        if self.plain.len() < d || self.undetected.len() < d || room < TEXT {
+        questions::count_entries(self.plain.len(), d).map_err(number)?;
+        questions::count_entries(self.undetected.len(), d).map_err(number)?;
+        if room < TEXT {
             return Err(10);
         }
-        let wide = |counts: &[u64]| counts[..d].iter().map(|&x| x.into()).collect::<Vec<u128>>();
+        let wide = |counts: &[u64]| {
+            let of_weights = counts[..d - 1].iter();
+            of_weights.map(|&count| count.into()).collect::<Vec<u128>>()
+        };
         let printed = Printed {
             numbers,
             generators,
@@ -63,11 +69,13 @@ impl Input {
 
 pub fn row_text(inputs: u64) -> Tally {
     let mut random = Random::new(0x804);
-    let mut tally = Tally::of_links("row_text", &[2, 3, 7, 10]);
+    let mut tally = Tally::of_links("row_text", &[2, 3, 7, 10]).with_lists();
     for _ in 0..inputs {
         let i = draw(&mut random);
         let room = draw_room(&mut random);
         let expected = i.text(room);
+        let refusal = expected.as_ref().err().copied().unwrap_or(0);
+        tally.count_lists(refusal, i.order.d, &[i.plain.len(), i.undetected.len()]);
         let (order, found) = (i.order, i.found());
         let (plain, undetected) = (&i.plain, &i.undetected);
         let raw = |text: &mut [u8]| calls::row_text(order, found, plain, undetected, text);
@@ -96,7 +104,7 @@ pub fn refusal_text(inputs: u64) -> Tally {
             false => Ok(refusal_line(no, left)),
         };
         if no == 15 && expected.is_ok() {
-            tally.count_kind();
+            tally.count_kind("of question 15");
         }
         let raw = |text: &mut [u8]| calls::refusal_text(no, left, text);
         let safe = |text: &mut [u8]| dohvrin::refusal_text(no, left, text);
@@ -162,6 +170,7 @@ fn draw(random: &mut Random) -> Input {
         0 => random.pick(&[0, 65, 66, 128]),
         1 => random.huge(5),
         2 => 64,
+        3 => 1,
         _ => random.within(1, 64),
     };
     let n = match random.within(0, 15) {
@@ -181,13 +190,7 @@ fn draw(random: &mut Random) -> Input {
     let mut generators = [0; 4];
     generators.fill_with(|| number(random));
     let counts = |random: &mut Random| {
-        let enough = size(d.min(64));
-        let entries = match random.within(0, 31) {
-            0 => enough.saturating_sub(1),
-            1 => random.index(64),
-            2..=20 => enough,
-            _ => enough + random.index(40),
-        };
+        let entries = draw_counts(random, d, 32);
         (0..entries).map(|_| number(random)).collect()
     };
     let (plain, undetected) = (counts(random), counts(random));

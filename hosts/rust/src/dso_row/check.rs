@@ -5,6 +5,31 @@ use crate::jobs::{self, Notes};
 use crate::numbers::{kind_of, Numbers};
 use crate::{put, text_of, Stop};
 use dohvrin::Link;
+use std::fmt;
+
+/// What rows of the older form have after their PATHS line: no word is counted
+/// there.
+const WEIGHT_0: &str = "A 0 0 0";
+
+/// What is said of a row.
+enum Verdict {
+    Same,
+    /// The same without its line of weight 0.
+    Older,
+    Differs(String),
+}
+
+impl fmt::Display for Verdict {
+    fn fmt(&self, f: &mut fmt::Formatter) -> fmt::Result {
+        match self {
+            Verdict::Same => f.write_str("the same"),
+            Verdict::Older => {
+                f.write_str("the same, but for the line of weight 0 of the older form")
+            }
+            Verdict::Differs(how) => write!(f, "DIFFERS, {how}"),
+        }
+    }
+}
 
 /// Writes a line for each row of a file, in their order.
 pub fn write(file: &str, args: &Args) -> Result<(), Stop> {
@@ -19,13 +44,12 @@ pub fn write(file: &str, args: &Args) -> Result<(), Stop> {
     let asked = args.asked[0];
     let compare = move |row: &Vec<String>, notes: Notes| {
         let lines = |numbers: &Numbers| desk.lines(numbers, asked, notes);
-        (row[0].trim().to_string(), difference(row, link, lines))
+        (row[0].trim().to_string(), verdict(row, link, lines))
     };
-    jobs::run(rows, args.jobs, compare, |(order, difference)| {
+    jobs::run(rows, args.jobs, compare, |(order, verdict)| {
         at += 1;
-        differ += usize::from(difference.is_some());
-        let said = difference.map_or("the same".to_string(), |how| format!("DIFFERS, {how}"));
-        Ok(put(format!("row {at}, {order}: {said}\n").as_bytes())?)
+        differ += usize::from(matches!(verdict, Verdict::Differs(_)));
+        Ok(put(format!("row {at}, {order}: {verdict}\n").as_bytes())?)
     })?;
     put(format!("rows checked: {checked}, different: {differ}\n").as_bytes())?;
     if differ == 0 {
@@ -60,37 +84,69 @@ fn without_kind(line: &str) -> &str {
     }
 }
 
-/// How a printed row differs from what is computed now. A row does not say the
+/// How a printed row compares with what is computed now. A row does not say the
 /// kind of its link: one that holds for the other kind is told as that.
-fn difference(row: &[String], link: Link, lines: impl Fn(&Numbers) -> String) -> Option<String> {
+fn verdict(row: &[String], link: Link, lines: impl Fn(&Numbers) -> String) -> Verdict {
     let numbers = match Numbers::read_line(&row[0], link) {
         Ok(numbers) => numbers,
-        Err(message) => return Some(format!("it is no order: {message}")),
+        Err(message) => return Verdict::Differs(format!("it is no order: {message}")),
     };
-    let mut row: Vec<&str> = row.iter().map(String::as_str).collect();
-    row[0] = without_kind(row[0]);
-    let how = unlike(&row, &lines(&numbers))?;
+    let row = Printed::of(row);
+    let Some(how) = row.unlike(&lines(&numbers)) else {
+        return match row.weight_0 {
+            None => Verdict::Same,
+            Some(_) => Verdict::Older,
+        };
+    };
     let other = numbers.for_other_link();
-    let hint = match unlike(&row, &lines(&other)) {
+    let hint = match row.unlike(&lines(&other)) {
         None => format!(
             "; it is the row of a {} link (see --terminated)",
             other.link()
         ),
         Some(_) => String::new(),
     };
-    Some(how + &hint)
+    Verdict::Differs(how + &hint)
 }
 
-/// The first line in which a row differs from these lines.
-fn unlike(row: &[&str], now: &str) -> Option<String> {
-    let now: Vec<&str> = now.lines().collect();
-    let at = (0..row.len().max(now.len())).find(|&at| row.get(at) != now.get(at))?;
-    let shown =
-        |line: Option<&&str>| line.map_or("nothing".to_string(), |line| format!("{line:?}"));
-    Some(format!(
-        "line {} of the row is {}, now {}",
-        at + 1,
-        shown(row.get(at)),
-        shown(now.get(at))
-    ))
+/// A row as it was printed.
+struct Printed<'a> {
+    /// Without a kind of link, and without the line of weight 0 of the older form.
+    lines: Vec<&'a str>,
+    /// The place of that line, where there was one.
+    weight_0: Option<usize>,
+}
+
+impl Printed<'_> {
+    fn of(row: &[String]) -> Printed<'_> {
+        let mut lines: Vec<&str> = row.iter().map(String::as_str).collect();
+        lines[0] = without_kind(lines[0]);
+        let older = |two: &[&str]| two[0].starts_with("PATHS ") && two[1] == WEIGHT_0;
+        let paths = lines.windows(2).position(older);
+        let weight_0 = paths.map(|place| place + 1);
+        if let Some(place) = weight_0 {
+            lines.remove(place);
+        }
+        Printed { lines, weight_0 }
+    }
+
+    /// The first line in which it differs from these lines.
+    fn unlike(&self, now: &str) -> Option<String> {
+        let (row, now) = (&self.lines, now.lines().collect::<Vec<_>>());
+        let at = (0..row.len().max(now.len())).find(|&at| row.get(at) != now.get(at))?;
+        let shown =
+            |line: Option<&&str>| line.map_or("nothing".to_string(), |line| format!("{line:?}"));
+        Some(format!(
+            "line {} of the row is {}, now {}",
+            self.number(at),
+            shown(row.get(at)),
+            shown(now.get(at))
+        ))
+    }
+
+    /// The number of a line in the row as it was printed, from 1.
+    fn number(&self, at: usize) -> usize {
+        let before = self.weight_0.is_some_and(|place| place <= at);
+        at + 1 + usize::from(before)
+    }
 }

@@ -8,18 +8,15 @@ use dohvrin::Link;
 pub fn of(text: &str, link: Link) -> String {
     let lines: Vec<Vec<&str>> = text.lines().map(|l| l.split(' ').collect()).collect();
     let counts: Vec<String> = lines.iter().filter_map(|line| count(line)).collect();
-    let mut members: Vec<String> = lines.iter().filter_map(|line| member(line, link)).collect();
-    if !counts.is_empty() {
-        // The polynomial stays last, as it is printed.
-        members.insert(
-            members.len() - 1,
-            format!("\"counts\":[{}]", counts.join(",")),
-        );
-    }
+    let counts = counts.join(",");
+    let member = |line: &Vec<&str>| member(line, link, &counts);
+    let members: Vec<String> = lines.iter().filter_map(member).collect();
     format!("{{{}}}\n", members.join(","))
 }
 
-fn member(line: &[&str], link: Link) -> Option<String> {
+/// What a line gives; the counts of all lines stand before the polynomial, which
+/// every row has, and a row without such lines has none.
+fn member(line: &[&str], link: Link, counts: &str) -> Option<String> {
     Some(match line {
         ["ORDER", n, v, bits, m, d, generators @ ..] => {
             let texts: Vec<String> = generators.iter().map(|g| format!("\"{g}\"")).collect();
@@ -30,7 +27,7 @@ fn member(line: &[&str], link: Link) -> Option<String> {
         }
         ["EVENTS", events] => format!("\"events\":{events}"),
         ["PATHS", paths] => format!("\"paths\":{paths}"),
-        ["CRC", polynomial] => format!("\"crc\":\"{polynomial}\""),
+        ["CRC", polynomial] => format!("\"counts\":[{counts}],\"crc\":\"{polynomial}\""),
         ["NO", number] => format!("\"refusal\":{number}"),
         ["NO", number, left] => format!("\"refusal\":{number},\"left\":{left}"),
         _ => return None,

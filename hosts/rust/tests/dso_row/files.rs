@@ -75,20 +75,20 @@ fn changed(from: &str, to: &str) -> String {
 #[test]
 fn a_changed_digit() {
     let said = changed("A 4 5 1", "A 4 5 0");
-    let expected = "line 8 of the row is \"A 4 5 0\", now \"A 4 5 1\"";
+    let expected = "line 7 of the row is \"A 4 5 0\", now \"A 4 5 1\"";
     assert_eq!(
         said,
         format!("row 1, ORDER 2 1 4 2 6 1 3: DIFFERS, {expected}")
     );
-    assert!(changed("0x5", "0x7").ends_with("line 10 of the row is \"CRC 0x7\", now \"CRC 0x5\""));
+    assert!(changed("0x5", "0x7").ends_with("line 9 of the row is \"CRC 0x7\", now \"CRC 0x5\""));
     assert!(
-        changed("PATHS 13\n", "").ends_with("line 3 of the row is \"A 0 0 0\", now \"PATHS 13\"")
+        changed("PATHS 13\n", "").ends_with("line 3 of the row is \"A 1 0 0\", now \"PATHS 13\"")
     );
-    assert!(changed("CRC 0x5\n", "").ends_with("line 10 of the row is nothing, now \"CRC 0x5\""));
-    assert!(changed("CRC", "A 6 0 0\nCRC").contains("line 10 of the row is \"A 6 0 0\""));
+    assert!(changed("CRC 0x5\n", "").ends_with("line 9 of the row is nothing, now \"CRC 0x5\""));
+    assert!(changed("CRC", "A 6 0 0\nCRC").contains("line 9 of the row is \"A 6 0 0\""));
     assert!(changed("6 1 3", "6 1 03").contains("line 1 of the row"));
     assert!(changed("6 1 3", "6 1 9").ends_with("it is no order: 9: not an octal generator"));
-    assert!(changed("A 0 0 0\n", "A 0 0 0 \n").contains("line 4 of the row is \"A 0 0 0 \""));
+    assert!(changed("A 1 0 0\n", "A 1 0 0 \n").contains("line 4 of the row is \"A 1 0 0 \""));
 }
 
 #[test]

@@ -9,7 +9,6 @@ const ROW: &str = "\
 ORDER 2 1 3 2 6 1 3
 EVENTS 4
 PATHS 7
-A 0 0 0
 A 1 0 0
 A 2 0 0
 A 3 4 0

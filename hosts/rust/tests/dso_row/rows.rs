@@ -9,7 +9,6 @@ pub const EXAMPLE: &str = "\
 ORDER 2 1 4 2 6 1 3
 EVENTS 5
 PATHS 13
-A 0 0 0
 A 1 0 0
 A 2 0 0
 A 3 4 0
@@ -85,16 +84,8 @@ fn counts_of_one_polynomial() {
 #[test]
 fn json() {
     let run = |arguments| crate::run::run(arguments).out;
-    let counts: Vec<String> = [
-        (0, 0, 0),
-        (1, 0, 0),
-        (2, 0, 0),
-        (3, 4, 0),
-        (4, 5, 1),
-        (5, 4, 0),
-    ]
-    .map(|(w, p, u)| format!(r#"{{"weight":{w},"plain":{p},"undetected":{u}}}"#))
-    .to_vec();
+    let counts = [(1, 0, 0), (2, 0, 0), (3, 4, 0), (4, 5, 1), (5, 4, 0)]
+        .map(|(w, p, u)| format!(r#"{{"weight":{w},"plain":{p},"undetected":{u}}}"#));
     let order =
         r#""order":{"link":"tail-biting","n":2,"v":1,"N":4,"m":2,"d":6,"generators":["1","3"]}"#;
     let expected = format!(
@@ -105,6 +96,43 @@ fn json() {
     assert_eq!(run("2 1 4 2 5 1 3 --json"), "{\"refusal\":15,\"left\":2}\n");
     assert_eq!(run("--json 2 1 4 2 0 1 3"), "{\"refusal\":7}\n");
     assert_eq!(run("--json 2 1 4 2 6 3 3"), "{\"refusal\":16}\n");
+}
+
+#[test]
+fn no_counts_below_weight_1() {
+    let row = "ORDER 2 1 4 1 1 1 3\nEVENTS 1\nPATHS 0\nCRC 0x3\n";
+    for link in ["tail-biting", "terminated"] {
+        let option = match link {
+            "terminated" => "--terminated",
+            _ => "",
+        };
+        let run = |options: &str| crate::run::run(&format!("{option} {options} 2 1 4 1 1 1 3"));
+        for options in ["", "--of 0x3", "--events 1 --paths 0"] {
+            let answer = run(options);
+            assert_eq!((answer.status, answer.out.as_str()), (0, row), "{options}");
+        }
+        let json = run("--json").out;
+        let numbers = r#""n":2,"v":1,"N":4,"m":1,"d":1,"generators":["1","3"]"#;
+        let found = r#""events":1,"paths":0,"counts":[],"crc":"0x3""#;
+        let expected = format!(r#"{{"order":{{"link":"{link}",{numbers}}},{found}}}"#);
+        assert_eq!(json, expected + "\n");
+        let signed = run("--checklist");
+        assert_eq!(signed.status, 0, "{}", signed.out);
+        assert!(signed
+            .out
+            .ends_with("best by the listed paths: 0x3, nothing undetected\n"));
+    }
+}
+
+#[test]
+fn one_count_below_weight_2() {
+    let row = |count| format!("ORDER 2 4 4 2 2 7 21\nEVENTS 4\nPATHS 4\nA 1 4 {count}\n");
+    assert_eq!(run("2 4 4 2 2 7 21").out, row(0) + "CRC 0x5\n");
+    assert_eq!(run("--of 0x7 2 4 4 2 2 7 21").out, row(2) + "CRC 0x7\n");
+    let signed = run("--checklist 2 4 4 2 2 7 21");
+    assert_eq!(signed.status, 0, "{}", signed.out);
+    let loss = "   0x7 loses at weight 1, 2 to 0: undetected 2 at 1\n";
+    assert!(signed.out.ends_with(loss), "{}", signed.out);
 }
 
 #[test]

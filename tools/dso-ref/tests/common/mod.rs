@@ -19,12 +19,6 @@ impl Random {
         low + (self.next() % (high - low + 1) as u64) as usize
     }
 
-    /// A polynomial of degree m with constant term 1.
-    pub fn candidate(&mut self, m: usize) -> u64 {
-        let power = 1 << m;
-        power | (self.next() % power) | 1
-    }
-
     /// An order of either kind that passes questions 3 to 9 and 16, within the
     /// greatest v, N, m, d.
     pub fn order(&mut self, v: usize, length: usize, m: usize, d: usize) -> Order {

@@ -1,4 +1,4 @@
--- The invariant: the lines of the weights below w have been put.
+-- The invariant: the lines of the first k entries, of weights 1 to k, have been put.
 -- Assumes nothing.
 use Prim.Native.Nat.{_+_, _*_, _-_, _≤_, zero-le}
 use native.Mathlib.Omega.{arith}
@@ -13,11 +13,11 @@ use Rattle.text.proofs.lines.put_counts.Statement.{statement}
 use Rattle.text.proofs.lines.put_counts.Tie as tie
 
 abbrev Inv-loop : tie.InvT-loop
-Inv-loop buffer₀ at d plain undetected end₀ w₀ buffer end w =
-    (w ≤ d) × Put (51 * w) buffer₀ at (flatMap (countLine plain undetected) (upFrom 0 w)) buffer end
+Inv-loop buffer₀ at entries plain undetected end₀ k₀ buffer end k =
+    (k ≤ entries) × Put (51 * k) buffer₀ at (flatMap (countLine plain undetected) (upFrom 1 k)) buffer end
 
 abbrev μ-loop : tie.MeasureT-loop
-μ-loop buffer₀ at d plain undetected end₀ w₀ buffer end w = d - w
+μ-loop buffer₀ at entries plain undetected end₀ k₀ buffer end k = entries - k
 
 loop-holds : tie.Need-loop-holds Inv-loop μ-loop
 unfolding flatMap upFrom
@@ -28,12 +28,12 @@ put-count-requires c κs =
     let same = put-same-length (c .before .before .loop .inv .1) in
     let counts = c .before .before .before .before .before .before .pre .counts in
     record {
-      counts = record { at-most-64 = omega arith; plain-counts = omega arith; undetected-counts = omega arith };
+      counts = record { at-most-63 = omega arith; plain-counts = omega arith; undetected-counts = omega arith };
       room = omega arith;
     }
 
-add-w : tie.Need-add-w Inv-loop μ-loop
-add-w c = omega arith
+add-k : tie.Need-add-k Inv-loop μ-loop
+add-k c = omega arith
 
 loop-less : tie.Need-loop-less Inv-loop μ-loop
 loop-less c = omega arith
@@ -44,8 +44,8 @@ loop-again c =
     let a = top .before .before .before .before .args in
     let l = top .loop in
     let more = joined (l .inv .1) (c .before .before .put-count .ensures) in
-    let within = put-most (51 * (l .w + 1)) more (omega (arith, more .short)) in
-    (omega arith, put-as (sym (range-more (countLine (a .plain .now) (a .undetected .now)) (l .w))) within)
+    let within = put-most (51 * (l .k + 1)) more (omega (arith, more .short)) in
+    (omega arith, put-as (sym (range-more (countLine (a .plain .now) (a .undetected .now)) (l .k))) within)
 
 same-length : tie.Need-same-length Inv-loop μ-loop
 same-length c = put-same-length (c .before .loop .inv .1)
@@ -54,9 +54,9 @@ returns : tie.Need-returns Inv-loop μ-loop
 returns c =
     let a = c .before .before .before .before .before .args in
     let l = c .before .loop in
-    let done : l .w ≡ a .d = omega arith in
-    let all = put-as (ap (λ k. flatMap (countLine (a .plain .now) (a .undetected .now)) (upFrom 0 k)) done) (l .inv .1) in
-    put-most (51 * a .d) all (omega (arith, all .short))
+    let done : l .k ≡ a .entries = omega arith in
+    let all = put-as (ap (λ n. flatMap (countLine (a .plain .now) (a .undetected .now)) (upFrom 1 n)) done) (l .inv .1) in
+    put-most (51 * a .entries) all (omega (arith, all .short))
 
 pub put-counts-spec : {M : Type 1} → statement M
 put-counts-spec =
@@ -66,7 +66,7 @@ put-counts-spec =
     μ-loop
     loop-holds
     put-count-requires
-    add-w
+    add-k
     loop-less
     loop-again
     same-length

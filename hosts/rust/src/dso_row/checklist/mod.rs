@@ -12,11 +12,12 @@ mod zero;
 use dohvrin::{Link, Order, Refusal, Row, Tables};
 use std::io::{self, Write};
 
-/// The listed paths: those of each weight below d, in increasing order.
+/// The listed paths: those of each weight from 1 to d - 1, in increasing order.
 struct Paths {
     link: Link,
     /// N, the bits of a word.
     bits: u32,
+    /// From weight 1 on.
     by_weight: Vec<Vec<u128>>,
 }
 
@@ -25,7 +26,7 @@ impl Paths {
         Paths {
             link: order.link(),
             bits: order.bits() as u32,
-            by_weight: (0..order.d())
+            by_weight: (1..order.d())
                 .map(|w| tables.paths_of(w).collect())
                 .collect(),
         }
@@ -33,7 +34,7 @@ impl Paths {
 
     /// The weights that have paths, and these.
     fn weights(&self) -> impl Iterator<Item = (usize, &[u128])> {
-        let all = self.by_weight.iter().map(Vec::as_slice).enumerate();
+        let all = (1..).zip(self.by_weight.iter().map(Vec::as_slice));
         all.filter(|(_, paths)| !paths.is_empty())
     }
 

@@ -12,7 +12,7 @@ const TIED: usize = 16;
 /// Candidates that are ranked: the best, and its rivals.
 const WANTED: usize = 1 + RIVALS;
 
-/// A polynomial, and how many listed paths of each weight it divides.
+/// A polynomial, and how many listed paths of each weight from 1 it divides.
 struct Candidate {
     polynomial: u64,
     remainders: Remainders,
@@ -59,7 +59,7 @@ fn names(candidates: &[Candidate]) -> String {
 /// Where a rival loses.
 fn loss(rival: &Candidate, best: &[u64]) -> String {
     let (p, counts) = (rival.polynomial, &rival.counts);
-    let mut both = counts.iter().zip(best).enumerate();
+    let mut both = (1..).zip(counts.iter().zip(best));
     let (weight, (count, least)) = both.find(|(_, (a, b))| a != b).expect("it loses");
     let listed = listed(counts);
     format!("0x{p:X} loses at weight {weight}, {count} to {least}: {listed}")
@@ -67,7 +67,8 @@ fn loss(rival: &Candidate, best: &[u64]) -> String {
 
 /// The counts that are not 0, with their weights.
 fn listed(counts: &[u64]) -> String {
-    let some: Vec<String> = (counts.iter().enumerate())
+    let some: Vec<String> = (1..)
+        .zip(counts)
         .filter(|(_, &count)| count > 0)
         .map(|(weight, count)| format!("{count} at {weight}"))
         .collect();
@@ -146,7 +147,7 @@ mod tests {
         };
         assert!(right(&found, tables.undetected()));
         assert!(!right(&other, tables.undetected()));
-        assert!(!right(&found, &[0, 0, 0, 0, 0, 0]));
+        assert!(!right(&found, &[0, 0, 0, 0, 0]));
         assert!(!right(&Err(Refusal::Tie { left: 2 }), tables.undetected()));
     }
 }

@@ -129,13 +129,13 @@ mod tests {
     fn shifts_stay_within_the_word() {
         let (fine, text) = said_of(Link::Terminated, vec![vec![1, 2, 4, 8], vec![5, 10, 15]]);
         assert!(fine);
-        assert!(text.contains("weight 0: 4 paths, the shifts of 1: 0x1 (4 of 4)\n"));
-        assert!(text.contains("weight 1: 3 paths, the shifts of 2: 0x5 (2 of 2), 0xF (1 of 1)\n"));
+        assert!(text.contains("weight 1: 4 paths, the shifts of 1: 0x1 (4 of 4)\n"));
+        assert!(text.contains("weight 2: 3 paths, the shifts of 2: 0x5 (2 of 2), 0xF (1 of 1)\n"));
         // At either end, and in between.
         for lost in [1, 2, 8] {
             let rest = [1, 2, 4, 8].into_iter().filter(|&word| word != lost);
             let (fine, text) = said_of(Link::Terminated, vec![rest.collect()]);
-            assert!(!fine && text.contains("MISSING at weight 0"), "{lost}");
+            assert!(!fine && text.contains("MISSING at weight 1"), "{lost}");
         }
     }
 
@@ -143,9 +143,9 @@ mod tests {
     fn all_there() {
         let (fine, text) = said(vec![vec![], vec![1, 2, 4, 8], vec![5, 10, 15]]);
         assert!(fine);
-        assert!(text.contains("weight 1: 4 paths, the rotations of 1: 0x1 (4 of 4)\n"));
+        assert!(text.contains("weight 2: 4 paths, the rotations of 1: 0x1 (4 of 4)\n"));
         assert!(
-            text.contains("weight 2: 3 paths, the rotations of 2: 0x5 (2 of 2), 0xF (1 of 1)\n")
+            text.contains("weight 3: 3 paths, the rotations of 2: 0x5 (2 of 2), 0xF (1 of 1)\n")
         );
         assert!(text.contains("7 of 7 paths"));
     }
@@ -155,6 +155,6 @@ mod tests {
         let (fine, text) = said(vec![vec![1, 2, 4]]);
         assert!(!fine);
         assert!(text.contains("0x1 (3 of 4)"));
-        assert!(text.contains("MISSING at weight 0: 0x4 turned by one place"));
+        assert!(text.contains("MISSING at weight 1: 0x4 turned by one place"));
     }
 }

@@ -86,7 +86,8 @@ mod tests {
 
     /// Code S, N = 3, d = 6, with these lists for weights 3, 4 and 5.
     fn said(lists: [&[u128]; 3]) -> (bool, String) {
-        let none = [&[][..]; 3];
+        // Weights 1 and 2.
+        let none = [&[][..]; 2];
         let paths = Paths {
             link: Link::Terminated,
             bits: 3,

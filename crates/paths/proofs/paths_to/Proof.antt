@@ -4,14 +4,14 @@ use mathlib.Core.Path.{_≡_}
 use mathlib.Core.List.{List}
 use Prim.Native.Nat.{ℕ, _-_, _≤_, zero-le}
 use native.Mathlib.Omega.{arith}
-use Rattle.paths.specs.Part.{pathsBefore}
+use Rattle.paths.specs.Part.{pathsTo}
 use Rattle.paths.proofs.Parts.{sum-none, sum-more, sum-past, sum-all}
-use Rattle.paths.proofs.paths_before.Statement.{statement}
-use Rattle.paths.proofs.paths_before.Tie as tie
+use Rattle.paths.proofs.paths_to.Statement.{statement}
+use Rattle.paths.proofs.paths_to.Tie as tie
 
 record Summing (counts : List ℕ) (w limit total k : ℕ) : Type 0 where
   within : k ≤ w
-  summed : total ≡ pathsBefore counts k
+  summed : total ≡ pathsTo counts k
   small : total ≤ limit
 
 abbrev Inv-loop : tie.InvT-loop
@@ -63,8 +63,8 @@ returns-2 c =
     let a = c .before .before .args in
     sum-all (a .counts .now) (l .k) (a .w) (l .total) (a .limit) (omega arith) (l .inv .summed) (l .inv .small)
 
-pub paths-before-spec : {M : Type 1} → statement M
-paths-before-spec =
+pub paths-to-spec : {M : Type 1} → statement M
+paths-to-spec =
     tie.close
     (tie.spec
     Inv-loop

@@ -1,0 +1,155 @@
+//! The lists of counts: d - 1 entries, of the weights from 1, and none for d = 1.
+
+mod lent;
+
+use dohvrin::{count, list, part, quote, row_text, search};
+use dohvrin::{AnyOrder, Event, Found, Lent, Link, Listed, Refusal, Searched, TEXT, WORK};
+use lent::lent;
+
+/// Code S with this threshold; m is 1, so that one polynomial is left.
+fn order(link: Link, d: u64) -> AnyOrder {
+    AnyOrder::new(&[1, 3], 1, 4, 1, d).with_link(link)
+}
+
+/// What a call answers with so many entries of either list, and room for all
+/// else; then both lists.
+fn with_counts<T>(plain: usize, undetected: usize, call: impl Fn(Lent) -> T) -> (T, [Vec<u64>; 2]) {
+    let (mut events, mut paths) = (vec![Event::default(); 10], vec![0; 40]);
+    let (mut plain, mut undetected) = (vec![9; plain], vec![9; undetected]);
+    let answer = call(Lent {
+        events: &mut events,
+        paths: &mut paths,
+        plain: &mut plain,
+        undetected: &mut undetected,
+        work: &mut [0; WORK],
+    });
+    (answer, [plain, undetected])
+}
+
+/// Whether a call is accepted with so many entries of either list; a list that it
+/// refuses is as it was.
+fn accepts<T>(plain: usize, undetected: usize, call: impl Fn(Lent) -> Result<T, Refusal>) -> bool {
+    let (answer, left) = with_counts(plain, undetected, call);
+    match answer {
+        Ok(_) => true,
+        Err(refusal) => {
+            assert_eq!(refusal, Refusal::Room);
+            assert_eq!(left, [vec![9; plain], vec![9; undetected]]);
+            false
+        }
+    }
+}
+
+#[test]
+fn one_entry_for_each_weight_from_1() {
+    for (link, d) in Link::ALL
+        .into_iter()
+        .flat_map(|link| (1..=8).map(move |d| (link, d)))
+    {
+        let (order, enough) = (order(link, d), d as usize - 1);
+        for entries in 0..=enough + 2 {
+            let fit = entries >= enough;
+            let listed = |l: Lent| list(order, l.events, l.paths, l.plain, l.work);
+            assert_eq!(accepts(entries, 0, listed), fit, "{d} {entries}");
+            for (plain, undetected) in [(entries, enough), (enough, entries)] {
+                assert_eq!(accepts(plain, undetected, |l| search(order, l)), fit);
+                assert_eq!(accepts(plain, undetected, |l| count(order, 0x3, l)), fit);
+                if link == Link::TailBiting {
+                    assert_eq!(accepts(plain, undetected, |l| quote(order, 3, l)), fit);
+                }
+            }
+        }
+    }
+}
+
+#[test]
+fn a_text_takes_as_many() {
+    let found = Found {
+        events: 5,
+        paths: 13,
+        polynomial: 0x3,
+    };
+    let (order, mut text) = (order(Link::TailBiting, 6), [9; TEXT]);
+    for (plain, undetected) in [(4, 5), (5, 4), (0, 5), (5, 0)] {
+        let (plain, undetected) = (vec![1; plain], vec![1; undetected]);
+        let answer = row_text(order, found, &plain, &undetected, &mut text);
+        assert_eq!(answer, Err(Refusal::Room));
+        assert_eq!(text, [9; TEXT]);
+    }
+    let size = row_text(
+        order,
+        found,
+        &[1, 2, 3, 4, 5],
+        &[5, 4, 3, 2, 1, 0],
+        &mut text,
+    )
+    .unwrap();
+    let expected = "A 1 1 5\nA 2 2 4\nA 3 3 3\nA 4 4 2\nA 5 5 1\nCRC 0x3\n";
+    assert!(text[..size].ends_with(expected.as_bytes()));
+    let one = AnyOrder { d: 1, ..order };
+    let size = row_text(one, found, &[], &[], &mut text).unwrap();
+    assert_eq!(
+        &text[..size],
+        b"ORDER 2 1 4 1 1 1 3\nEVENTS 5\nPATHS 13\nCRC 0x3\n"
+    );
+}
+
+#[test]
+fn empty_lists_for_d_1() {
+    for order in Link::ALL.map(|link| order(link, 1)) {
+        let found = Found {
+            events: 1,
+            paths: 0,
+            polynomial: 0x3,
+        };
+        let (searched, left) = with_counts(0, 0, |l| search(order, l));
+        assert_eq!(
+            (searched, left),
+            (Ok(Searched::Found(found)), [vec![], vec![]])
+        );
+        // What is past the last weight is 0.
+        let (_, left) = with_counts(2, 1, |l| search(order, l));
+        assert_eq!(left, [vec![0, 0], vec![0]]);
+        let (counted, _) = with_counts(0, 0, |l| count(order, 0x3, l));
+        let listed = Listed {
+            events: 1,
+            paths: 0,
+        };
+        assert_eq!(counted, Ok(listed));
+        // Several are left, where m is not 1.
+        let (tied, _) = with_counts(0, 0, |l| search(AnyOrder { m: 3, ..order }, l));
+        assert_eq!(tied, Ok(Searched::Tied(4)));
+        // The work area is still asked for.
+        assert_eq!(lent(0, WORK - 1, |l| search(order, l)), Err(Refusal::Room));
+    }
+}
+
+#[test]
+fn entry_w_minus_1_is_weight_w() {
+    let (_, [plain, undetected]) = with_counts(6, 6, |l| search(order(Link::TailBiting, 7), l));
+    assert_eq!(plain, [0, 0, 4, 5, 4, 2]);
+    assert_eq!(undetected, [0, 0, 0, 5, 0, 2]);
+}
+
+#[test]
+fn parts_begin_at_weight_1() {
+    let (paths, counts) = ((0..30).collect::<Vec<u64>>(), [0, 0, 4, 5, 4, 2]);
+    let part = |entries: usize, weight| part(&paths, &counts[..entries], weight);
+    assert_eq!(part(6, 1), Ok(&paths[..0]));
+    assert_eq!(part(6, 3), Ok(&paths[..8]));
+    assert_eq!(part(6, 6), Ok(&paths[26..]));
+    for (entries, weight) in [
+        (6, 0),
+        (6, 7),
+        (6, 1 << 32 | 3),
+        (6, u64::MAX),
+        (0, 0),
+        (0, 1),
+    ] {
+        assert_eq!(
+            part(entries, weight),
+            Err(Refusal::Room),
+            "{entries} {weight}"
+        );
+    }
+}
