@@ -45,6 +45,17 @@ module _ (o : Order) (acc : AcceptedCode o) where
     FewerByWeight =
         (w : ℕ) × (w < o .d) × ((k : ℕ) → k < w → undetectedCount o p k ≡ undetectedCount o q k) × (undetectedCount o p w < undetectedCount o q w)
 
+    of-weight : FewerByWeight → LowestFewer o p q
+    of-weight (zero, inside, below, less) = absurd (let none = none-undetected q in omega arith)
+    of-weight (suc k, inside, below, less) =
+        let e : 1 + k ≡ suc k = omega arith in
+        let mine = undetected-count-at o p k (omega arith) ∙ ap (undetectedCount o p) e in
+        let other = undetected-count-at o q k (omega arith) ∙ ap (undetectedCount o q) e in
+        (k, omega arith, agree, omega arith)
+      where
+        agree : (j : ℕ) → j < k → getD (undetectedCounts o p) j 0 ≡ getD (undetectedCounts o q) j 0
+        agree j h = undetected-count-at o p j (omega arith) ∙ below (1 + j) (omega arith) ∙ sym (undetected-count-at o q j (omega arith))
+
     by-weight : LowestFewer o p q → FewerByWeight
     by-weight (k, inside, below, less) =
         let mine = undetected-count-at o p k inside in
@@ -57,17 +68,6 @@ module _ (o : Order) (acc : AcceptedCode o) where
             let e : 1 + j ≡ suc j = omega arith in
             subst (λ (x : ℕ). undetectedCount o p x ≡ undetectedCount o q x) e
             (sym (undetected-count-at o p j (omega arith)) ∙ below j (omega arith) ∙ undetected-count-at o q j (omega arith))
-
-    of-weight : FewerByWeight → LowestFewer o p q
-    of-weight (zero, inside, below, less) = absurd (let none = none-undetected q in omega arith)
-    of-weight (suc k, inside, below, less) =
-        let e : 1 + k ≡ suc k = omega arith in
-        let mine = undetected-count-at o p k (omega arith) ∙ ap (undetectedCount o p) e in
-        let other = undetected-count-at o q k (omega arith) ∙ ap (undetectedCount o q) e in
-        (k, omega arith, agree, omega arith)
-      where
-        agree : (j : ℕ) → j < k → getD (undetectedCounts o p) j 0 ≡ getD (undetectedCounts o q) j 0
-        agree j h = undetected-count-at o p j (omega arith) ∙ below (1 + j) (omega arith) ∙ sym (undetected-count-at o q j (omega arith))
 
     pub lowest-by-weight : LowestFewer o p q ↔ FewerByWeight
     lowest-by-weight = (by-weight, of-weight)

@@ -66,8 +66,8 @@ module _ {bits entries m n : ℕ} {table plain before : List ℕ} (asked : ToCom
   After after alive k = Met m entries n table plain before after alive k
 
   -- the best counts are read from the undetected list
-  pub met-limit : {k : ℕ} {after : List ℕ} {alive : List Bool} → After after alive k → (w : ℕ) → w < entries → getD after w 0 ≡ getD (best k) w 0
-  met-limit {k} met w h = ap (λ (l : List ℕ). getD l w 0) (met .listed) ∙ laid-at entries (best k) before (best-length k) room w h
+  pub met-limit : {k : ℕ} {after : List ℕ} {alive : List Bool} → After after alive k → (j : ℕ) → j < entries → getD after j 0 ≡ getD (best k) j 0
+  met-limit {k} met j h = ap (λ (l : List ℕ). getD l j 0) (met .listed) ∙ laid-at entries (best k) before (best-length k) room j h
 
   pub met-length : {k : ℕ} {after : List ℕ} {alive : List Bool} → After after alive k → length after ≡ length before
   met-length {k} met = ap length (met .listed) ∙ length-laid entries (best k) before (best-length k) room
@@ -101,17 +101,17 @@ module _ {bits entries m n : ℕ} {table plain before : List ℕ} (asked : ToCom
           flags = alive-worse mine entries sized k alive inside (met .flags) u;
         }
 
-    pub met-better : T (fewer (counts p) (best k)) → (w : ℕ) → w ≤ entries → Agree w (counts p) (best k)
-        → {alive′ : List Bool} → alive′ ≡ dropped k alive → {after′ : List ℕ} → after′ ≡ countedFrom m p table plain w entries after
+    pub met-better : T (fewer (counts p) (best k)) → (j : ℕ) → j ≤ entries → Agree j (counts p) (best k)
+        → {alive′ : List Bool} → alive′ ≡ dropped k alive → {after′ : List ℕ} → after′ ≡ countedFrom m p table plain j entries after
         → After after′ alive′ (k + 1)
-    met-better t w h agree ea el =
+    met-better t j h agree ea el =
         let u = subst (λ (a : List ℕ). T (fewer a (best k))) same t in
         record {
           begun = omega arith;
           within = omega arith;
           listed =
-              el ∙ ap (countedFrom m p table plain w entries) (met .listed)
-              ∙ laid-recounted entries (best k) before (best-length k) room m p table plain w h agree
+              el ∙ ap (countedFrom m p table plain j entries) (met .listed)
+              ∙ laid-recounted entries (best k) before (best-length k) room m p table plain j h agree
               ∙ ap (λ (a : List ℕ). laid a before) (same ∙ sym (leader-better mine entries sized k u));
           flags = subst (Alive mine (k + 1)) (sym ea) (alive-better mine entries sized k alive inside (met .flags) u);
         }

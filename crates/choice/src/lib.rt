@@ -1,5 +1,5 @@
 // The choice: every candidate is compared with the best so far, weight by weight, and drops out at the first weight where another counts fewer. Weights go by
-// their entries in the lists of counts: entry w is of weight w + 1.
+// their entries in the lists of counts: entry j is of weight j + 1.
 // What is `pub` here is for the crate above; docs/DECISIONS.md lists it as internal.
 ghost use mathlib.Core.Path.{_≡_};
 ghost use Prim.Native.Nat.{_+_, _*_, _^_, _≤_};
@@ -57,10 +57,10 @@ fn compare(
         let p = candidate(m, k);
         let rows = check_table(bits, m, p);
         let mut at = 0;
-        let mut w = 0;
-        while w < entries {
-            let next = at + plain[w] as usize;
-            let best = undetected[w];
+        let mut j = 0;
+        while j < entries {
+            let next = at + plain[j] as usize;
+            let best = undetected[j];
             let found = count_up_to(table, at, next, &rows, m, best);
             if best < found {
                 alive[k] = false;
@@ -69,12 +69,12 @@ fn compare(
             }
             if found < best {
                 alive = drop_before(alive, k);
-                count_from(table, plain, undetected, bits, m, p, w, entries, at);
+                count_from(table, plain, undetected, bits, m, p, j, entries, at);
                 k += 1;
                 continue 'candidates;
             }
             at = next;
-            w += 1;
+            j += 1;
         }
         k += 1;
     }

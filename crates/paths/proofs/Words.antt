@@ -24,7 +24,7 @@ use Rattle.code.proofs.Steps.{Fit}
 use Rattle.order.specs.Order.{Order}
 use Rattle.events.specs.Events.{ErrorEvent, eventsOfState}
 use Rattle.events.proofs.OfState.{of-eventsOfState, in-eventsOfState, eventsOfState-distinct}
-use Rattle.paths.specs.Paths.{wordsOfWeight, paths}
+use Rattle.paths.specs.Paths.{wordsOfWeight}
 use Rattle.paths.specs.Chains.{steps, cost, inputNumber, firstLength}
 use Rattle.paths.specs.Model.Joining.{turns, firstOr, unbegunFirst, stateWords, chainWords}
 use Rattle.paths.proofs.Listed.{mem-words, of-wordsOfWeight, in-wordsOfWeight, wordsOfWeight-sorted}
@@ -207,12 +207,3 @@ module _ (o : Order) (some : 0 < o .N) (longer : o .v ≤ o .N) where
         length-chainWords =
             distinct-same-length (chainWords o w) (wordsOfWeight o w) chainWords-distinct
             (increasing-distinct (wordsOfWeight o w) (wordsOfWeight-sorted o w)) chainWords-within within-chainWords
-
-  -- weight by weight: parts sorted by number make the list of paths
-  pub sorted-parts-are-paths : Fit (o .v) (o .generators) → (part : ℕ → List ℕ)
-      → ((w : ℕ) → w < o .d → Sorted _<_ (part w) × Within (part w) (chainWords o w) × Within (chainWords o w) (part w))
-      → flatMap part (upFrom 0 (o .d)) ≡ paths o
-  unfolding paths
-  sorted-parts-are-paths fit part h =
-      flatMap-cong-on part (wordsOfWeight o) (upFrom 0 (o .d))
-      (λ w m. let b = upFrom-bounds 0 (o .d) m .1 in let light : w < o .d = omega arith in let k = h w light in sorted-chainWords w fit light (part w) (k .0) (k .1) (k .2))

@@ -25,12 +25,12 @@ use Rattle.undetected.proofs.Counting.{upTo-within}
 -- ---- where the words of an entry stand
 
 module _ (plain : List ℕ) where
-  pub before-next : (w : ℕ) → pathsTo plain (w + 1) ≡ pathsTo plain w + getD plain w 0
-  before-next w = ap (pathsTo plain) (add-one w) ∙ to-more plain w
+  pub before-next : (j : ℕ) → pathsTo plain (j + 1) ≡ pathsTo plain j + getD plain j 0
+  before-next j = ap (pathsTo plain) (add-one j) ∙ to-more plain j
 
-  -- those of entry w end where those of all end, or before
-  pub before-end : (w entries at : ℕ) → w < entries → at ≡ pathsTo plain w → at + getD plain w 0 ≤ pathsTo plain entries
-  before-end w entries at h e = let s = to-mono plain (w + 1) entries (omega arith) in omega (arith, before-next w)
+  -- those of entry j end where those of all end, or before
+  pub before-end : (j entries at : ℕ) → j < entries → at ≡ pathsTo plain j → at + getD plain j 0 ≤ pathsTo plain entries
+  before-end j entries at h e = let s = to-mono plain (j + 1) entries (omega arith) in omega (arith, before-next j)
 
 -- ---- the words of one entry
 
@@ -44,59 +44,59 @@ module _ (bits entries m p : ℕ) (table plain : List ℕ) (readable : Readable 
       (readable .numbers (2 * k)) (readable .words k)))
 
   -- the limit is how many there are, so it is never passed
-  pub counted-weight : (rows : List ℕ) (w at r : ℕ) → rows ≡ checkTable bits m p → at ≡ pathsTo plain w
-      → r ≡ upTo (getD plain w 0) (evenBetween rows m table at (at + getD plain w 0)) → r ≡ dividedOf m p table plain w
+  pub counted-weight : (rows : List ℕ) (j at r : ℕ) → rows ≡ checkTable bits m p → at ≡ pathsTo plain j
+      → r ≡ upTo (getD plain j 0) (evenBetween rows m table at (at + getD plain j 0)) → r ≡ dividedOf m p table plain j
   unfolding dividedOf dividedBetween
-  counted-weight rows w at r er ea e =
-      let all : ℕ = getD plain w 0 in
-      let same : evenBetween rows m table at (at + all) ≡ dividedOf m p table plain w =
-      ap₂ (λ (l : List ℕ) (x : ℕ). evenBetween l m table x (x + all)) er ea ∙ even-divided (pathsTo plain w) (pathsTo plain w + all) in
-      let few = between-le (λ k. eqb (remainder m p (wordAt table k)) 0) (pathsTo plain w) (pathsTo plain w + all) in
-      e ∙ ap (upTo all) same ∙ sym (upTo-within all (dividedOf m p table plain w) (omega arith))
+  counted-weight rows j at r er ea e =
+      let all : ℕ = getD plain j 0 in
+      let same : evenBetween rows m table at (at + all) ≡ dividedOf m p table plain j =
+      ap₂ (λ (l : List ℕ) (x : ℕ). evenBetween l m table x (x + all)) er ea ∙ even-divided (pathsTo plain j) (pathsTo plain j + all) in
+      let few = between-le (λ k. eqb (remainder m p (wordAt table k)) 0) (pathsTo plain j) (pathsTo plain j + all) in
+      e ∙ ap (upTo all) same ∙ sym (upTo-within all (dividedOf m p table plain j) (omega arith))
 
 -- ---- the lent list
 
 module _ (m p : ℕ) (table plain : List ℕ) where
-  pub counted-none : (w : ℕ) (l : List ℕ) → l ≡ countedFrom m p table plain w w l
+  pub counted-none : (j : ℕ) (l : List ℕ) → l ≡ countedFrom m p table plain j j l
   unfolding countedFrom upFrom
-  counted-none w l =
-      let e : w - w ≡ 0 = omega arith in
-      sym (ap (λ (n : ℕ). take w l ++ (map (dividedOf m p table plain) (upFrom w n) ++ drop w l)) e ∙ take-append-drop w l)
+  counted-none j l =
+      let e : j - j ≡ 0 = omega arith in
+      sym (ap (λ (n : ℕ). take j l ++ (map (dividedOf m p table plain) (upFrom j n) ++ drop j l)) e ∙ take-append-drop j l)
 
-  module _ (first w : ℕ) (l : List ℕ) (begun : first ≤ w) where
-    -- what stands before entry w
+  module _ (first j : ℕ) (l : List ℕ) (begun : first ≤ j) where
+    -- what stands before entry j
     front : List ℕ
-    front = take first l ++ map (dividedOf m p table plain) (upFrom first (w - first))
+    front = take first l ++ map (dividedOf m p table plain) (upFrom first (j - first))
 
-    length-front : w ≤ length l → length front ≡ w
+    length-front : j ≤ length l → length front ≡ j
     unfolding front
     length-front h =
         let begins = length-take-le first l (omega arith) in
-        let goes-on = length-map-upFrom (dividedOf m p table plain) first (w - first) in
-        omega (arith, length-append (take first l) (map (dividedOf m p table plain) (upFrom first (w - first))))
+        let goes-on = length-map-upFrom (dividedOf m p table plain) first (j - first) in
+        omega (arith, length-append (take first l) (map (dividedOf m p table plain) (upFrom first (j - first))))
 
-    as-front : countedFrom m p table plain first w l ≡ front ++ drop w l
+    as-front : countedFrom m p table plain first j l ≡ front ++ drop j l
     unfolding countedFrom front
-    as-front = sym (append-assoc (take first l) (map (dividedOf m p table plain) (upFrom first (w - first))) (drop w l))
+    as-front = sym (append-assoc (take first l) (map (dividedOf m p table plain) (upFrom first (j - first))) (drop j l))
 
-    pub length-counted : w ≤ length l → length (countedFrom m p table plain first w l) ≡ length l
-    length-counted h = let e = length-front h in omega (arith, ap length as-front, length-append front (drop w l), length-drop w l)
+    pub length-counted : j ≤ length l → length (countedFrom m p table plain first j l) ≡ length l
+    length-counted h = let e = length-front h in omega (arith, ap length as-front, length-append front (drop j l), length-drop j l)
 
-    pub counted-next : (x : ℕ) → w < length l → x ≡ dividedOf m p table plain w
-        → set (countedFrom m p table plain first w l) w x ≡ countedFrom m p table plain first (w + 1) l
+    pub counted-next : (x : ℕ) → j < length l → x ≡ dividedOf m p table plain j
+        → set (countedFrom m p table plain first j l) j x ≡ countedFrom m p table plain first (j + 1) l
     unfolding countedFrom front
     counted-next x h e =
         let f : ℕ → ℕ = dividedOf m p table plain in
-        let g : w + 1 - first ≡ suc (w - first) = omega arith in
-        let i : first + (w - first) ≡ w = omega arith in
-        let one-more : map f (upFrom first (w + 1 - first)) ≡ map f (upFrom first (w - first)) ++ (f w ∷ []) =
-        ap (λ (n : ℕ). map f (upFrom first n)) g ∙ ap (map f) (upFrom-last first (w - first))
-        ∙ map-append f (upFrom first (w - first)) ((first + (w - first)) ∷ [])
-        ∙ ap (λ (n : ℕ). map f (upFrom first (w - first)) ++ (f n ∷ [])) i in
-        ap (λ (r : List ℕ). set r w x) (as-front ∙ ap (λ (r : List ℕ). front ++ r) (drop-cons l w 0 h))
-        ∙ set-at front (getD l w 0) (drop (suc w) l) x w (length-front (omega arith))
-        ∙ ap₂ (λ (y k : ℕ). front ++ y ∷ drop k l) e (sym (add-one w))
-        ∙ sym (append-snoc front (f w) (drop (w + 1) l))
-        ∙ ap (λ (r : List ℕ). r ++ drop (w + 1) l)
-        (append-assoc (take first l) (map f (upFrom first (w - first))) (f w ∷ []) ∙ ap (λ (r : List ℕ). take first l ++ r) (sym one-more))
-        ∙ append-assoc (take first l) (map f (upFrom first (w + 1 - first))) (drop (w + 1) l)
+        let g : j + 1 - first ≡ suc (j - first) = omega arith in
+        let i : first + (j - first) ≡ j = omega arith in
+        let one-more : map f (upFrom first (j + 1 - first)) ≡ map f (upFrom first (j - first)) ++ (f j ∷ []) =
+        ap (λ (n : ℕ). map f (upFrom first n)) g ∙ ap (map f) (upFrom-last first (j - first))
+        ∙ map-append f (upFrom first (j - first)) ((first + (j - first)) ∷ [])
+        ∙ ap (λ (n : ℕ). map f (upFrom first (j - first)) ++ (f n ∷ [])) i in
+        ap (λ (r : List ℕ). set r j x) (as-front ∙ ap (λ (r : List ℕ). front ++ r) (drop-cons l j 0 h))
+        ∙ set-at front (getD l j 0) (drop (suc j) l) x j (length-front (omega arith))
+        ∙ ap₂ (λ (y k : ℕ). front ++ y ∷ drop k l) e (sym (add-one j))
+        ∙ sym (append-snoc front (f j) (drop (j + 1) l))
+        ∙ ap (λ (r : List ℕ). r ++ drop (j + 1) l)
+        (append-assoc (take first l) (map f (upFrom first (j - first))) (f j ∷ []) ∙ ap (λ (r : List ℕ). take first l ++ r) (sym one-more))
+        ∙ append-assoc (take first l) (map f (upFrom first (j + 1 - first))) (drop (j + 1) l)

@@ -32,7 +32,7 @@ pub fn count_up_to(
     found
 }
 
-// The undetected counts of p from entry `first` of the lists on; entry w is of weight w + 1. The words of entry `first` begin at place `start`.
+// The undetected counts of p from entry `first` of the lists on; entry j is of weight j + 1. The words of entry `first` begin at place `start`.
 pub fn count_from(
     table: &[u64],
     plain: &[u64],
@@ -49,12 +49,12 @@ pub fn count_from(
 {
     let rows = check_table(bits, m, p);
     let mut at = start;
-    let mut w = first;
-    while w < entries {
-        let all = plain[w];
+    let mut j = first;
+    while j < entries {
+        let all = plain[j];
         let next = at + all as usize;
-        undetected[w] = count_up_to(table, at, next, &rows, m, all);
+        undetected[j] = count_up_to(table, at, next, &rows, m, all);
         at = next;
-        w += 1;
+        j += 1;
     }
 }

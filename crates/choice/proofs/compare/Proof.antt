@@ -1,4 +1,4 @@
--- The outer invariant: the first k candidates have been compared. The inner: candidate k and the best agree before entry w, whose words
+-- The outer invariant: the first k candidates have been compared. The inner: candidate k and the best agree before entry j, whose words
 -- begin at place `at`.
 -- Assumes nothing.
 use native.Mathlib.Omega.{arith}
@@ -19,20 +19,20 @@ use Rattle.choice.proofs.Comparing.{met-begin, met-worse, met-better, m
 use Rattle.choice.proofs.compare.Statement.{statement}
 use Rattle.choice.proofs.compare.Tie as tie
 
-record Level (m entries : ℕ) (table plain undetected₀ undetected : List ℕ) (alive₀ alive : List Bool) (k₀ k p at w : ℕ) : Type 0 where
+record Level (m entries : ℕ) (table plain undetected₀ undetected : List ℕ) (alive₀ alive : List Bool) (k₀ k p at j : ℕ) : Type 0 where
   same-list : undetected ≡ undetected₀
   same-flags : alive ≡ alive₀
   same-candidate : k ≡ k₀
-  within : w ≤ entries
-  placed : at ≡ pathsTo plain w
-  agree : Agree w (dividedCounts m table plain entries p) (bestOf m table plain entries k)
+  within : j ≤ entries
+  placed : at ≡ pathsTo plain j
+  agree : Agree j (dividedCounts m table plain entries p) (bestOf m table plain entries k)
 
 abbrev Inv-loop : tie.InvT-loop
-Inv-loop table plain undetected₀ bits m entries n alive₀ k₀ p rows at₀ w₀ undetected alive k at w =
-    Level m entries table plain undetected₀ undetected alive₀ alive k₀ k p at w
+Inv-loop table plain undetected₀ bits m entries n alive₀ k₀ p rows at₀ j₀ undetected alive k at j =
+    Level m entries table plain undetected₀ undetected alive₀ alive k₀ k p at j
 
 abbrev μ-loop : tie.MeasureT-loop
-μ-loop table plain undetected₀ bits m entries n alive₀ k₀ p rows at₀ w₀ undetected alive k at w = entries - w
+μ-loop table plain undetected₀ bits m entries n alive₀ k₀ p rows at₀ j₀ undetected alive k at j = entries - j
 
 abbrev Inv-candidates : tie.InvT-candidates
 Inv-candidates table plain undetected₀ bits m entries n alive₀ k₀ undetected alive k = Met m entries n table plain undetected₀ undetected alive k
@@ -94,13 +94,13 @@ module _ (l : At) where
   counts : s .args .entries ≤ length (l .loop .undetected)
   counts = omega (arith, met-length (s .pre) met, s .pre .choose .counts)
 
-  -- the words of entry w lie in the table
-  inside : l .loop .w < s .args .entries → 2 * (l .loop .at + getD plain (l .loop .w) 0) ≤ length (s .args .table .now)
+  -- the words of entry j lie in the table
+  inside : l .loop .j < s .args .entries → 2 * (l .loop .at + getD plain (l .loop .j) 0) ≤ length (s .args .table .now)
   inside h =
-      let ends = before-end plain (l .loop .w) (s .args .entries) (l .loop .at) h (l .loop .inv .placed) in
+      let ends = before-end plain (l .loop .j) (s .args .entries) (l .loop .at) h (l .loop .inv .placed) in
       omega (arith, s .pre .choose .readable .inside)
 
--- once the words of entry w are counted
+-- once the words of entry j are counted
 abbrev Counted : Type 0
 Counted = Here tie.After-count-up-to
 
@@ -109,13 +109,13 @@ at c = c .before .before .before .before .before
 
 verdict-at : (c : Counted)
     → let l = at c in
-    Verdict (l .loop .w) (getD (l .loop .undetected) (l .loop .w) 0) (c .count-up-to .result) (best l) (mine l)
+    Verdict (l .loop .j) (getD (l .loop .undetected) (l .loop .j) 0) (c .count-up-to .result) (best l) (mine l)
 verdict-at c =
     let l = at c in
     let asked = start l .pre in
     let h = c .before .before .before .before .loop-test .taken in
-    verdict (asked .choose .readable) (divisor l) (l .loop .w) (l .before .check-table .ensures) (l .loop .inv .placed) h
-    (best-length asked (l .loop .k)) (l .loop .inv .agree) (met-limit asked (met l) (l .loop .w) h) (c .count-up-to .ensures)
+    verdict (asked .choose .readable) (divisor l) (l .loop .j) (l .before .check-table .ensures) (l .loop .inv .placed) h
+    (best-length asked (l .loop .k)) (l .loop .inv .agree) (met-limit asked (met l) (l .loop .j) h) (c .count-up-to .ensures)
 
 -- ---- the needs, in the order of the code
 
@@ -207,10 +207,10 @@ candidates-again-2 c =
     let v = f .before .before .before .before .before in
     let l = at v in
     met-better (start l .pre) (more l) (named l) (met l) (verdict-at v .better (f .before .before .before .if2 .taken))
-    (l .loop .w) (l .loop .inv .within) (l .loop .inv .agree) (f .before .before .drop-before .ensures) (f .count-from .ensures)
+    (l .loop .j) (l .loop .inv .within) (l .loop .inv .agree) (f .before .before .drop-before .ensures) (f .count-from .ensures)
 
-add-w : Here tie.Need-add-w
-add-w c = omega arith
+add-j : Here tie.Need-add-j
+add-j c = omega arith
 
 loop-less : Here tie.Need-loop-less
 loop-less c = omega arith
@@ -273,7 +273,7 @@ compare-spec =
     add-k-2
     candidates-less-2
     candidates-again-2
-    add-w
+    add-j
     loop-less
     loop-again
     add-k-3

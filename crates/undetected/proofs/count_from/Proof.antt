@@ -1,4 +1,4 @@
--- The invariant: the words of entry w begin at the place reached, and the counts of the entries before w stand in the list.
+-- The invariant: the words of entry j begin at the place reached, and the counts of the entries before j stand in the list.
 -- Assumes nothing.
 use borrow.Author.Needs.{needs}
 use mathlib.Core.Path.{_≡_, ap, _∙_}
@@ -12,18 +12,18 @@ use Rattle.undetected.proofs.Counted.{before-next, before-end, counted-
 use Rattle.undetected.proofs.count_from.Statement.{statement}
 use Rattle.undetected.proofs.count_from.Tie as tie
 
-record Counted (table plain undetected₀ : List ℕ) (m p first entries : ℕ) (undetected : List ℕ) (at w : ℕ) : Type 0 where
-  begun : first ≤ w
-  within : w ≤ entries
-  placed : at ≡ pathsTo plain w
-  so-far : undetected ≡ countedFrom m p table plain first w undetected₀
+record Counted (table plain undetected₀ : List ℕ) (m p first entries : ℕ) (undetected : List ℕ) (at j : ℕ) : Type 0 where
+  begun : first ≤ j
+  within : j ≤ entries
+  placed : at ≡ pathsTo plain j
+  so-far : undetected ≡ countedFrom m p table plain first j undetected₀
 
 abbrev Inv-loop : tie.InvT-loop
-Inv-loop table plain undetected₀ bits m p first entries start rows at₀ w₀ undetected at w =
-    Counted table plain undetected₀ m p first entries undetected at w
+Inv-loop table plain undetected₀ bits m p first entries start rows at₀ j₀ undetected at j =
+    Counted table plain undetected₀ m p first entries undetected at j
 
 abbrev μ-loop : tie.MeasureT-loop
-μ-loop table plain undetected₀ bits m p first entries start rows at₀ w₀ undetected at w = entries - w
+μ-loop table plain undetected₀ bits m p first entries start rows at₀ j₀ undetected at j = entries - j
 
 abbrev At : Type 0
 At = tie.At-loop Inv-loop μ-loop
@@ -35,12 +35,12 @@ start l = l .before .before .before .before .before
 long-at : (l : At) → length (l .loop .undetected) ≡ length (start l .args .undetected .now)
 long-at l =
     let i = l .loop .inv in
-    ap length (i .so-far) ∙ length-counted _ _ _ _ _ (l .loop .w) _ (i .begun) (omega (arith, i .within, start l .pre .each .counts))
+    ap length (i .so-far) ∙ length-counted _ _ _ _ _ (l .loop .j) _ (i .begun) (omega (arith, i .within, start l .pre .each .counts))
 
--- the words of entry w end where those of all end, or before
-ends-at : (l : At) → l .loop .w < start l .args .entries
-    → l .loop .at + getD (start l .args .plain .now) (l .loop .w) 0 ≤ pathsTo (start l .args .plain .now) (start l .args .entries)
-ends-at l h = before-end _ (l .loop .w) _ (l .loop .at) h (l .loop .inv .placed)
+-- the words of entry j end where those of all end, or before
+ends-at : (l : At) → l .loop .j < start l .args .entries
+    → l .loop .at + getD (start l .args .plain .now) (l .loop .j) 0 ≤ pathsTo (start l .args .plain .now) (start l .args .entries)
+ends-at l h = before-end _ (l .loop .j) _ (l .loop .at) h (l .loop .inv .placed)
 
 check-table-requires : tie.Need-check-table-requires Inv-loop μ-loop
 check-table-requires c κs = search needs
@@ -79,8 +79,8 @@ slice-write-undetected c =
     let l = c .before .before .before .before in
     omega (arith, start l .pre .each .counts, long-at l)
 
-add-w : tie.Need-add-w Inv-loop μ-loop
-add-w c = search needs
+add-j : tie.Need-add-j Inv-loop μ-loop
+add-j c = search needs
 
 loop-less : tie.Need-loop-less Inv-loop μ-loop
 loop-less c = search needs
@@ -90,18 +90,18 @@ loop-again c =
     let l = c .before .before .before .before in
     let i = l .loop .inv in
     let asked = start l .pre .each in
-    let w = l .loop .w in
+    let j = l .loop .j in
     let r = c .count-up-to .result in
     let one =
-    counted-weight _ _ _ _ _ _ (asked .readable) (asked .divisor) _ w _ r (l .before .check-table .ensures) (i .placed)
+    counted-weight _ _ _ _ _ _ (asked .readable) (asked .divisor) _ j _ r (l .before .check-table .ensures) (i .placed)
     (c .count-up-to .ensures) in
     record {
       begun = omega arith;
       within = omega arith;
-      placed = omega (arith, before-next (start l .args .plain .now) w);
+      placed = omega (arith, before-next (start l .args .plain .now) j);
       so-far =
-          ap (λ (u : List ℕ). set u w r) (i .so-far)
-          ∙ counted-next _ _ _ _ _ w _ (i .begun) r (omega (arith, asked .counts, c .before .before .before .loop-test .taken)) one;
+          ap (λ (u : List ℕ). set u j r) (i .so-far)
+          ∙ counted-next _ _ _ _ _ j _ (i .begun) r (omega (arith, asked .counts, c .before .before .before .loop-test .taken)) one;
     }
 
 same-length : tie.Need-same-length Inv-loop μ-loop
@@ -110,7 +110,7 @@ same-length c = long-at (c .before)
 returns : tie.Need-returns Inv-loop μ-loop
 returns c =
     let l = c .before in
-    let all : l .loop .w ≡ start l .args .entries = omega arith in
+    let all : l .loop .j ≡ start l .args .entries = omega arith in
     rw all at (l .loop .inv .so-far)
 
 pub count-from-spec : {M : Type 1} → statement M
@@ -127,7 +127,7 @@ count-from-spec =
     count-up-to-requires
     mul-undetected
     slice-write-undetected
-    add-w
+    add-j
     loop-less
     loop-again
     same-length

@@ -1,5 +1,5 @@
--- What the code counts: words of a path table by their places, entry by entry of the lists of counts. Entry w is of weight w + 1, so the words of
--- entry w stand after those of weights 1 to w. `proofs/Counts.antt` joins this to the definition: over the table and the plain counts
+-- What the code counts: words of a path table by their places, entry by entry of the lists of counts. Entry j is of weight j + 1, so the words of
+-- entry j stand after those of weights 1 to j. `proofs/Counts.antt` joins this to the definition: over the table and the plain counts
 -- that the listing leaves, it is the undetected counts.
 -- Assumes nothing.
 use Prim.Native.Nat.{ℕ, _+_, _-_, _*_, _^_, _≤_, _<_}
@@ -18,9 +18,9 @@ use Rattle.paths.specs.Part.{pathsTo}
 unfoldable pub dividedBetween : ℕ → ℕ → List ℕ → ℕ → ℕ → ℕ
 dividedBetween m p table a b = count (λ k. eqb (remainder m p (wordAt table k)) 0) (upFrom a (b - a))
 
--- of the words of entry w, given the plain counts
+-- of the words of entry j, given the plain counts
 unfoldable pub dividedOf : ℕ → ℕ → List ℕ → List ℕ → ℕ → ℕ
-dividedOf m p table plain w = dividedBetween m p table (pathsTo plain w) (pathsTo plain w + getD plain w 0)
+dividedOf m p table plain j = dividedBetween m p table (pathsTo plain j) (pathsTo plain j + getD plain j 0)
 
 -- of each entry
 unfoldable pub dividedCounts : ℕ → List ℕ → List ℕ → ℕ → ℕ → List ℕ
@@ -34,9 +34,9 @@ evenBetween rows m table a b = count (λ k. allEven rows m (getD table (2 * k) 0
 unfoldable pub upTo : ℕ → ℕ → ℕ
 upTo limit c = cond (leb c limit) c (limit + 1)
 
--- the counts of the entries from w on stand in a lent list
+-- the counts of the entries from j on stand in a lent list
 unfoldable pub countedFrom : ℕ → ℕ → List ℕ → List ℕ → ℕ → ℕ → List ℕ → List ℕ
-countedFrom m p table plain w entries l = take w l ++ (map (dividedOf m p table plain) (upFrom w (entries - w)) ++ drop entries l)
+countedFrom m p table plain j entries l = take j l ++ (map (dividedOf m p table plain) (upFrom j (entries - j)) ++ drop entries l)
 
 -- a table of words of so many bits, and plain counts with so many entries that lie in it
 pub record Readable (bits entries : ℕ) (table plain : List ℕ) : Type 0 where
