@@ -5,48 +5,17 @@ use native.Mathlib.Omega.{arith}
 use mathlib.Core.Path.{_≡_, sym, ap, _∙_, subst}
 use mathlib.Core.Logic.{inl, inr}
 use mathlib.Core.Bool.{Bool, cond}
-use mathlib.Core.List.{List, [], flatMap}
+use mathlib.Core.List.{List, flatMap}
 use lib.ListN.{length, replicate}
 use borrow.Author.Tests.{le-leb, lt-leb}
 use Rattle.lists.specs.Lists.{padded, cleared}
 use Rattle.lists.proofs.Tests.{lt-or-ge}
 use Rattle.poly.specs.Word.{halves}
 use Rattle.order.specs.Order.{Order}
-use Rattle.order.specs.Model.Accepted.{AcceptedCode, Accepted}
-use Rattle.code.proofs.Steps.{Fit}
-use Rattle.code.proofs.Calls.{fit-of-code}
-use Rattle.paths.specs.Paths.{wordsOfWeight, paths, plainCounts, pathRoom, pathTable}
-use Rattle.paths.proofs.FromOne.{none-of-weight-0}
+use Rattle.paths.specs.Paths.{paths, plainCounts, pathRoom, pathTable}
 use Rattle.filling.specs.Model.Filling.{Filling, filling}
+use Rattle.filling.proofs.Ordered.{Ordered}
 use Rattle.filling.proofs.Weights.{all-words, all-counts, Held}
-
--- what an accepted order is to the laws of words and walks
-pub record Ordered (o : Order) : Type 0 where
-  pub code : AcceptedCode o
-  pub some : 0 < o .N
-  pub longer : o .v ≤ o .N
-  pub few : o .N ≤ 128
-  pub memory : o .v ≤ 8
-  pub threshold : 1 ≤ o .d
-  pub light : o .d ≤ 64
-  pub fit : Fit (o .v) (o .generators)
-  pub none : wordsOfWeight o 0 ≡ []
-
-pub ordered : (o : Order) → Accepted o → Ordered o
-ordered o acc =
-    let one = acc .code .some-memory in
-    let long = acc .code .long-enough in
-    record {
-      code = acc .code;
-      some = omega arith;
-      longer = long;
-      few = acc .code .at-most-128;
-      memory = acc .code .small-memory;
-      threshold = acc .threshold .some-weight;
-      light = acc .threshold .at-most-64;
-      fit = fit-of-code o (acc .code);
-      none = none-of-weight-0 o (acc .code);
-    }
 
 -- ---- the path table filled
 
@@ -70,14 +39,14 @@ module _ (o : Order) (ps cs ws : List ℕ) where
   unfolding pathRoom cleared
   ends-past at e h = ap (λ (x : ℕ). (x, (replicate (length ps) 0, (replicate (length cs) 0, replicate (length ws) 0)))) e ∙ sym (filling-past h)
 
-  pub ends-filled : (ok : Ordered o) (enough : o .d - 1 ≤ length cs) (at : ℕ) (ps′ cs′ : List ℕ) → Held o (ok .some) (ok .longer) (ok .few) (ok .fit) (ok .none) (length ps) (length cs) enough (o .d) at ps′ cs′
+  pub ends-filled : (ok : Ordered o) (enough : o .d - 1 ≤ length cs) (at : ℕ) (ps′ cs′ : List ℕ) → Held o ok (length ps) (length cs) enough (o .d) at ps′ cs′
       → _≡_ {A = Filling} (at, (ps′, (cs′, replicate (length ws) 0))) (filling o ps cs ws)
   unfolding pathTable pathRoom cleared
   ends-filled ok enough at ps′ cs′ h =
-      let all = all-words o (ok .some) (ok .longer) (ok .few) (ok .fit) (ok .none) in
+      let all = all-words o ok in
       let place : at ≡ length (paths o) = h .place ∙ ap length all in
       let table : ps′ ≡ padded (length ps) 0 (flatMap halves (paths o)) = h .paths-are ∙ ap (λ (l : List ℕ). padded (length ps) 0 (flatMap halves l)) all in
-      let counts : cs′ ≡ padded (length cs) 0 (plainCounts o) = h .counts-are ∙ ap (padded (length cs) 0) (all-counts o (ok .some) (ok .longer) (ok .few) (ok .fit) (ok .none)) in
+      let counts : cs′ ≡ padded (length cs) 0 (plainCounts o) = h .counts-are ∙ ap (padded (length cs) 0) (all-counts o ok) in
       let room : length (paths o) ≤ length ps / 2 = subst (λ (l : List ℕ). length l ≤ length ps / 2) all (h .fits) in
       (λ i. (place i, (table i, (counts i, replicate (length ws) 0)))) ∙ sym (filling-fits room)
 

@@ -1,3 +1,4 @@
+pub mod Ordered
 pub mod Settled
 pub mod Weights
 pub mod Filled

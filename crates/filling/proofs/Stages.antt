@@ -16,7 +16,7 @@ use Rattle.chains.specs.Model.Chaining.{weightListed, Noted, ToListWeight}
 use Rattle.filling.specs.Model.Filling.{settledPaths, settledCounts, laterWeight, Settles, TableFor}
 use Rattle.filling.proofs.Settled.{later-bounds}
 use Rattle.filling.proofs.Weights.{Held}
-use Rattle.filling.proofs.Filled.{Ordered}
+use Rattle.filling.proofs.Ordered.{Ordered}
 use Rattle.filling.proofs.Standing as S
 
 pub record Ready (o : Order) (np nc nw : ℕ) : Type 0 where
@@ -83,7 +83,7 @@ module _ {o : Order} {np nc nw : ℕ} (b : Ready o np nc nw) where
     pub nearer : x .w < o .d → (w′ next : ℕ) → w′ ≡ laterWeight (x .w) (o .d) next (np / 2) → o .d - w′ < o .d - x .w
     nearer light w′ next e = let h = later-bounds (x .w) (o .d) next (np / 2) light .0 in omega (arith, e, h, light)
 
-    pub ends-held : o .d ≤ x .w → x .at ≤ np / 2 → Held o (b .ok .some) (b .ok .longer) (b .ok .few) (b .ok .fit) (b .ok .none) np nc (b .enough) (o .d) (x .at) (x .ls) (x .ms)
+    pub ends-held : o .d ≤ x .w → x .at ≤ np / 2 → Held o (b .ok) np nc (b .enough) (o .d) (x .at) (x .ls) (x .ms)
     ends-held over = S.ends-held o (b .ok) (b .table) (b .from) np nc nw (b .enough) (b .wide) (x .w) (x .at) (x .ls) (x .ms) (x .us) (x .stands) over
 
     pub ends-full : o .d ≤ x .w → np / 2 < x .at → (x .at ≡ np / 2 + 1) × (np / 2 < length (paths o))

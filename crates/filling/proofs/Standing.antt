@@ -25,7 +25,7 @@ use Rattle.chains.proofs.Indexing.{noteworthy, delimits-order, entries-listed}
 use Rattle.filling.specs.Model.Filling.{settledPaths, settledCounts, laterWeight, Settles, TableFor}
 use Rattle.filling.proofs.Settled.{later-bounds}
 use Rattle.filling.proofs.Weights.{Held, Full, held-first, held-sizes, settles, weight-done}
-use Rattle.filling.proofs.Filled.{Ordered}
+use Rattle.filling.proofs.Ordered.{Ordered}
 
 -- what `fill` is given: the number of states that begin events, and what a chain that is not begun has as its first length
 pub record Begins (o : Order) (states first : ℕ) : Type 0 where
@@ -63,7 +63,7 @@ module _ (o : Order) (ok : Ordered o) (table : List Event) (from : TableFor o ta
     pub low : w ≤ o .d
     pub delimits : Delimits o c table ws
     pub work-size : length ws ≡ nw
-    pub reached : Held o (ok .some) (ok .longer) (ok .few) (ok .fit) (ok .none) np nc enough w at ps cs ⊎ Full o (ok .some) (ok .longer) (ok .few) (ok .fit) (ok .none) np nc enough w at ps cs
+    pub reached : Held o ok np nc enough w at ps cs ⊎ Full o ok np nc enough w at ps cs
 
   pub standing-first : (n : ℕ) (us vs ws : List ℕ) → n ≡ length (events c) → us ≡ replicate nw 0 → vs ≡ surveyed table (n - 0) 0 us → ws ≡ indexed (stepsOf o) vs → length ws ≡ nw → Standing 1 0 (replicate np 0) (replicate nc 0) ws
   standing-first n us vs ws e zeros is-vs is-ws kept =
@@ -73,12 +73,12 @@ module _ (o : Order) (ok : Ordered o) (table : List Event) (from : TableFor o ta
         low = ok .threshold;
         delimits = subst (Delimits o c table) (sym same) (delimits-order (from .no-longer) (some-steps o (ok .code)) (few-steps c (from .code)) (from .code .small-memory) light-too (λ e h. whole-input c (from .code) h) table nw wide (from .fits) entries);
         work-size = kept;
-        reached = inl (held-first o (ok .some) (ok .longer) (ok .few) (ok .fit) (ok .none) np nc enough);
+        reached = inl (held-first o ok np nc enough);
       }
 
   pub standing-sizes : (w at : ℕ) (ps cs ws : List ℕ) → Standing w at ps cs ws → (length ps ≡ np) × (length cs ≡ nc)
   standing-sizes w at ps cs ws s = elim (s .reached) [
-    | inl h ↦ held-sizes o (ok .some) (ok .longer) (ok .few) (ok .fit) (ok .none) np nc enough w at ps cs (s .low) h
+    | inl h ↦ held-sizes o ok np nc enough w at ps cs (s .low) h
     | inr f ↦ (f .paths-size, f .counts-size)
   ]
 
@@ -90,7 +90,7 @@ module _ (o : Order) (ok : Ordered o) (table : List Event) (from : TableFor o ta
 
   -- before a weight below the threshold the table is not too small
   module _ (w at : ℕ) (ps cs ws : List ℕ) (s : Standing w at ps cs ws) (light : w < o .d) where
-    not-full : Held o (ok .some) (ok .longer) (ok .few) (ok .fit) (ok .none) np nc enough w at ps cs
+    not-full : Held o ok np nc enough w at ps cs
     not-full = elim (s .reached) [ inl h ↦ h | inr f ↦ absurd (let l = f .last in omega arith) ]
 
     -- what `list_weight` asks
@@ -112,7 +112,7 @@ module _ (o : Order) (ok : Ordered o) (table : List Event) (from : TableFor o ta
           ∙ ap (λ (l : List ℕ). puts l (ps, at)) (foundFrom-is-chainWords o c table ws w (s .delimits))
 
       pub standing-settles : Settles ps′ cs at next w (o .N)
-      standing-settles = settles o (ok .some) (ok .longer) (ok .few) (ok .fit) (ok .none) np nc enough w at ps cs light not-full ps′ next words
+      standing-settles = settles o ok np nc enough w at ps cs light not-full ps′ next words
 
       delimits-then : Delimits o c table ws′
       delimits-then =
@@ -126,16 +126,16 @@ module _ (o : Order) (ok : Ordered o) (table : List Event) (from : TableFor o ta
         low = later-bounds w (o .d) next (np / 2) light .1;
         delimits = delimits-then;
         work-size = kept;
-        reached = weight-done o (ok .some) (ok .longer) (ok .few) (ok .fit) (ok .none) np nc enough w at ps cs light not-full ps′ next words;
+        reached = weight-done o ok np nc enough w at ps cs light not-full ps′ next words;
       }
 
   -- once there is no weight left, all is held where the place is within the room
   module _ (w at : ℕ) (ps cs ws : List ℕ) (s : Standing w at ps cs ws) (over : o .d ≤ w) where
-    pub ends-held : at ≤ np / 2 → Held o (ok .some) (ok .longer) (ok .few) (ok .fit) (ok .none) np nc enough (o .d) at ps cs
+    pub ends-held : at ≤ np / 2 → Held o ok np nc enough (o .d) at ps cs
     ends-held room =
         let l : w ≡ o .d = let a = s .low in omega arith in
         elim (s .reached) [
-          | inl h ↦ subst (λ (x : ℕ). Held o (ok .some) (ok .longer) (ok .few) (ok .fit) (ok .none) np nc enough x at ps cs) l h
+          | inl h ↦ subst (λ (x : ℕ). Held o ok np nc enough x at ps cs) l h
           | inr f ↦ absurd (let p = f .past in omega arith)
         ]
 

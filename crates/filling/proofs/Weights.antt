@@ -13,7 +13,6 @@ use Rattle.lists.proofs.Lengths.{upFrom-last, length-upFrom, length-padded}
 use Rattle.lists.proofs.Blocks.{flatMap-one, flatMap-append}
 use Rattle.poly.specs.Word.{halves}
 use Rattle.poly.proofs.Halves.{length-halves}
-use Rattle.code.proofs.Steps.{Fit}
 use Rattle.order.specs.Order.{Order}
 use Rattle.paths.specs.Paths.{wordsOfWeight, weights, paths, plainCounts, pathRoom}
 use Rattle.paths.specs.Model.Joining.{chainWords}
@@ -28,6 +27,7 @@ use Rattle.sort.specs.Model.Steps.{Narrow}
 use Rattle.sort.proofs.Sorting.{sorted-within, within-sorted, sorted-increasing}
 use Rattle.sort.proofs.Parts.{narrow-appended, sortedPart-appended}
 use Rattle.filling.specs.Model.Filling.{settledPaths, settledCounts, laterWeight, Settles}
+use Rattle.filling.proofs.Ordered.{Ordered}
 use Rattle.filling.proofs.Settled.{later-none, later-next, settled-full, settled-sorted}
 
 -- one number more after those of a list that is made up by zeros
@@ -49,7 +49,7 @@ set-padded size xs x h =
     set-after [] k y = refl
     set-after (z ∷ l) k y = ap (λ (r : List ℕ). z ∷ r) (set-after l k y)
 
-module _ (o : Order) (some : 0 < o .N) (longer : o .v ≤ o .N) (few : o .N ≤ 128) (fit : Fit (o .v) (o .generators)) (none : wordsOfWeight o 0 ≡ []) where
+module _ (o : Order) (ok : Ordered o) where
   -- the words of weights from 1 to below w, and how many there are of each
   unfoldable pub wordsTo : ℕ → List ℕ
   wordsTo w = flatMap (wordsOfWeight o) (upFrom 1 (w - 1))
@@ -86,7 +86,7 @@ module _ (o : Order) (some : 0 < o .N) (longer : o .v ≤ o .N) (few : o .N ≤ 
 
   pub all-words : wordsTo (o .d) ≡ paths o
   unfolding wordsTo weights
-  all-words = paths-from-1 o none
+  all-words = paths-from-1 o (ok .none)
 
   pub all-counts : countsTo (o .d) ≡ plainCounts o
   unfolding countsTo weights
@@ -150,10 +150,10 @@ module _ (o : Order) (some : 0 < o .N) (longer : o .v ≤ o .N) (few : o .N ≤ 
       from-listed = appended ∙ ap₂ (λ (x : List ℕ) (y : ℕ). puts us (x, y)) (h .paths-are) (h .place)
 
       sorted-is : sorted us ≡ wordsOfWeight o w
-      sorted-is = sorted-chainWords o some longer w fit light (sorted us) (sorted-increasing us (chainWords-distinct o some longer w)) (sorted-within us) (within-sorted us)
+      sorted-is = sorted-chainWords o (ok .some) (ok .longer) w (ok .fit) light (sorted us) (sorted-increasing us (chainWords-distinct o (ok .some) (ok .longer) w)) (sorted-within us) (within-sorted us)
 
       same-number : length us ≡ length (wordsOfWeight o w)
-      same-number = length-chainWords o some longer w fit light
+      same-number = length-chainWords o (ok .some) (ok .longer) w (ok .fit) light
 
       pub size-after : length ps′ ≡ size
       size-after = ap (λ (s : List ℕ × ℕ). length (s .0)) appended ∙ length-puts us (ps, at) ∙ held-sizes w at ps cs (omega arith) h .0
@@ -177,7 +177,7 @@ module _ (o : Order) (some : 0 < o .N) (longer : o .v ≤ o .N) (few : o .N ≤ 
         narrow : Narrow ps′ at next (o .N)
         narrow =
             subst (λ (x : ℕ). Narrow ps′ x next (o .N)) (sym (h .place)) (subst (λ (x : ℕ). Narrow ps′ (length ws) x (o .N)) (sym next-is)
-            (narrow-appended ws us (replicate (size - length (flatMap halves (ws ++ us))) 0) ps′ made (o .N) few (λ u m. of-chainWords o some longer w fit u m .1)))
+            (narrow-appended ws us (replicate (size - length (flatMap halves (ws ++ us))) 0) ps′ made (o .N) (ok .few) (λ u m. of-chainWords o (ok .some) (ok .longer) w (ok .fit) u m .1)))
 
         sorted-table : sortedPart ps′ at next ≡ padded size 0 (flatMap halves (wordsTo (w + 1)))
         unfolding padded

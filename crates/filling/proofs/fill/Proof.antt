@@ -20,7 +20,8 @@ use Rattle.bounds.specs.Model.Places.{areaSize}
 use Rattle.chains.proofs.survey.Met as survey
 use Rattle.chains.proofs.list_weight.Met as list-weight
 use Rattle.filling.specs.Model.Filling.{laterWeight, Filling}
-use Rattle.filling.proofs.Filled.{ordered, ends-past, ends-filled}
+use Rattle.filling.proofs.Ordered.{ordered}
+use Rattle.filling.proofs.Filled.{ends-past, ends-filled}
 use Rattle.filling.proofs.Standing.{Begins}
 use Rattle.filling.proofs.Stages.{Ready, Stage, staged, noted, begun, asked, settles, stands-next, nearer, ends-held, ends-full}
 use Rattle.filling.proofs.index.Met as index
