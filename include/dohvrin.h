@@ -47,9 +47,11 @@
 
   The best polynomial of degree m is the one under which the fewest paths pass
   the check unseen: of two, the one with fewer undetected paths at the lowest
-  weight where they differ. Its row is the order, how many events and paths
-  there are, both counts of every weight from 1 to d - 1, and the polynomial. A
-  row's text does not say the kind of link.
+  weight where they differ, and where they differ at none, the smaller number.
+  Its row is the order, how many events and paths there are, both counts of
+  every weight from 1 to d - 1, the polynomial, and how many polynomials of
+  degree m share its counts, it among them: 1 where it alone has them. A row's
+  text does not say the kind of link.
 
   Events of a tail-biting link that were collected for N serve every shorter
   length: those of at most N' steps, in their order, are the events for N'. To
@@ -79,11 +81,11 @@
           struct dohvrin_answer written;
 
           if (row.refusal != 0)
-              written = dohvrin_refusal_text(row.refusal, row.left, text, DOHVRIN_TEXT);
+              written = dohvrin_refusal_text(row.refusal, text, DOHVRIN_TEXT);
           else
               written = dohvrin_row_text(order, row.events, row.paths, row.polynomial,
-                                         plain, DOHVRIN_COUNTS, undetected, DOHVRIN_COUNTS,
-                                         text, DOHVRIN_TEXT);
+                                         row.shared, plain, DOHVRIN_COUNTS,
+                                         undetected, DOHVRIN_COUNTS, text, DOHVRIN_TEXT);
           fwrite(text, 1, written.value, stdout);
           return 0;
       }
@@ -98,7 +100,7 @@
       A 3 4 0
       A 4 5 1
       A 5 4 0
-      CRC 0x5
+      CRC 0x5 1
 
   Refusals
   --------
@@ -109,9 +111,9 @@
   The one exception is row_text, which asks only 2, 3, 7 and 10: a row is
   printed as it is told, for an order that a call has accepted before. A
   refused call has no other result: the rest of its answer is 0, and what was
-  lent to it is as it was; after 13 and 14, it is 0. Only 15 says more, and
-  leaves more: see dohvrin_search. A quote takes N, the order's, and N'; where
-  a question is about both, either can be refused.
+  lent to it is as it was; after 13 and 14, it is 0. A quote takes N, the
+  order's, and N'; where a question is about both, either can be refused. No
+  call gives 15 any more, and no other question has that number.
 
       no.  question                                                 asked by
        1   Are there 2 bytes, and does the length in them equal
@@ -164,7 +166,6 @@
                                                                     count
       14   Are there at most as many paths as pairs of numbers?     list search
            (For a quote: of those for N'.)                          quote count
-      15   Is one polynomial better than all others?                search quote
 
   What the library counts on
   --------------------------
@@ -241,7 +242,7 @@ struct dohvrin_row {
     uint64_t events;     /* how many events the row has: after a quote the table may have more */
     uint64_t paths;      /* how many paths are in the path table */
     uint64_t polynomial; /* the best polynomial */
-    uint64_t left;       /* after refusal 15: how many share the best counts */
+    uint64_t shared;     /* how many polynomials have its counts, it among them */
 };
 
 /* Where the paths of one weight stand in a path table. */
@@ -362,19 +363,18 @@ struct dohvrin_part dohvrin_part(const uint64_t *paths, size_t path_numbers,
 /*
   Searches for the order's best check polynomial: of degree m, for words of N
   bits, by the paths of weight below d. Accepted: the answer has the
-  polynomial, and says how many events and paths there are. Event table, path
-  table, plain counts and work area are as dohvrin_list leaves them. The
-  undetected counts say how many of the paths of each weight from 1 to d - 1
-  the polynomial divides, in undetected[w - 1] those of weight w, and are 0
-  after that. Refusal 15, several are best: `left` says how many, the rest of
-  the answer is 0; the tables and plain counts are as an accepted call leaves
-  them, and the undetected counts are those that the best ones share. Refusals
-  13, there are more events than entries, and 14, there are more paths than
-  pairs of numbers: all five are 0 throughout. Other refusals: 2 to 9, 16, 10
-  (plain_entries or undetected_entries is below d - 1, or work_numbers is below
-  DOHVRIN_WORK); then all five are as they were. What they held before the call
-  does not matter. That the pointers have as many entries and numbers as is
-  said, and that none of the tables overlaps another, cannot be checked.
+  polynomial, the smallest of those with the best counts; `shared` says how
+  many these are, from 1 on; and it says how many events and paths there are.
+  Event table, path table, plain counts and work area are as dohvrin_list
+  leaves them. The undetected counts say how many of the paths of each weight
+  from 1 to d - 1 the polynomial divides, in undetected[w - 1] those of weight
+  w, and are 0 after that. Refusals 13, there are more events than entries, and
+  14, there are more paths than pairs of numbers: all five are 0 throughout.
+  Other refusals: 2 to 9, 16, 10 (plain_entries or undetected_entries is below
+  d - 1, or work_numbers is below DOHVRIN_WORK); then all five are as they
+  were. What they held before the call does not matter. That the pointers have
+  as many entries and numbers as is said, and that none of the tables overlaps
+  another, cannot be checked.
 */
 struct dohvrin_row dohvrin_search(struct dohvrin_order order, struct dohvrin_event *events,
                                   size_t event_entries, uint64_t *paths, size_t path_numbers,
@@ -388,17 +388,16 @@ struct dohvrin_row dohvrin_search(struct dohvrin_order order, struct dohvrin_eve
   Accepted: the answer is that of dohvrin_search for the same order with N' in
   place of N; `events` says how many there are of at most N' steps. The event
   table is as dohvrin_collect leaves it for N; path table, plain and undetected
-  counts and work area are as dohvrin_search leaves them for N'. Refusal 15,
-  several are best for N', is told as by dohvrin_search, and the tables are as
-  an accepted call leaves them. Refusals 13, there are more events for N than
-  entries, and 14, there are more paths for N' than pairs of numbers: all five
-  are 0 throughout. Other refusals: 2 (the version is not 1), 3, 4, 5 (N is not
-  from v to 128, or N' not from v to N), 6 (m is not from 1 to 12, below N and
-  below N'), 7, 8, 9, 16, 10 (as of dohvrin_search); then all five are as they
-  were. Where none of 2 to 13 refuses, the row or the refusal is the one that
-  dohvrin_search gives for N'. What they held before the call does not matter.
-  That the pointers have as many entries and numbers as is said, and that none
-  of the tables overlaps another, cannot be checked.
+  counts and work area are as dohvrin_search leaves them for N'. Refusals 13,
+  there are more events for N than entries, and 14, there are more paths for N'
+  than pairs of numbers: all five are 0 throughout. Other refusals: 2 (the
+  version is not 1), 3, 4, 5 (N is not from v to 128, or N' not from v to N), 6
+  (m is not from 1 to 12, below N and below N'), 7, 8, 9, 16, 10 (as of
+  dohvrin_search); then all five are as they were. Where none of 2 to 13
+  refuses, the row or the refusal is the one that dohvrin_search gives for N'.
+  What they held before the call does not matter. That the pointers have as
+  many entries and numbers as is said, and that none of the tables overlaps
+  another, cannot be checked.
 */
 struct dohvrin_row dohvrin_quote(struct dohvrin_order order, uint64_t bits,
                                  struct dohvrin_event *events, size_t event_entries,
@@ -412,7 +411,7 @@ struct dohvrin_row dohvrin_quote(struct dohvrin_order order, uint64_t bits,
   Accepted: the answer says how many events and paths there are; tables and
   plain counts are as dohvrin_search leaves them, and the undetected counts are
   this polynomial's. Refusals are those of dohvrin_search, and leave the same,
-  with 11 (the polynomial) after 10 and without 15.
+  with 11 (the polynomial) after 10.
 */
 struct dohvrin_listing dohvrin_count(struct dohvrin_order order, uint64_t polynomial,
                                      struct dohvrin_event *events, size_t event_entries,
@@ -425,30 +424,31 @@ struct dohvrin_listing dohvrin_count(struct dohvrin_order order, uint64_t polyno
   Writes the row of an order: ORDER with n, v, N, m, d and the generators in
   octal, but not the version; EVENTS; PATHS; for each weight from 1 to d - 1 a
   line A with the weight and both counts; CRC with the polynomial in
-  hexadecimal. Accepted: value is the number of its bytes, which the text
-  begins with; each line ends with a line feed, and the bytes after the last
-  are 0. Nothing is computed, and the row is printed as it is told, for an
-  order that a call has accepted before: of all questions only 2, 3, 7, and 10
-  (plain_entries or undetected_entries is below d - 1, or size is below
-  DOHVRIN_TEXT) are asked, and their refusals leave the text as it was. The
-  other numbers may be any. The counts are only read; that the pointers have as
-  many as is said, and that the text overlaps none of them, cannot be checked.
+  hexadecimal and how many share its counts. Accepted: value is the number of
+  its bytes, which the text begins with; each line ends with a line feed, and
+  the bytes after the last are 0. Nothing is computed, and the row is printed
+  as it is told, for an order that a call has accepted before: of all questions
+  only 2, 3, 7, and 10 (plain_entries or undetected_entries is below d - 1, or
+  size is below DOHVRIN_TEXT) are asked, and their refusals leave the text as
+  it was. The other numbers may be any: where the polynomial was given, and
+  compared with no other, hosts tell 0 as `shared`, which no search does. The
+  counts are only read; that the pointers have as many as is said, and that the
+  text overlaps none of them, cannot be checked.
 */
 struct dohvrin_answer dohvrin_row_text(struct dohvrin_order order, uint64_t events,
-                                       uint64_t paths, uint64_t polynomial,
+                                       uint64_t paths, uint64_t polynomial, uint64_t shared,
                                        const uint64_t *plain, size_t plain_entries,
                                        const uint64_t *undetected, size_t undetected_entries,
                                        uint8_t *text, size_t size);
 
 /*
-  Writes a refusal: NO with its number, for 15 also with how many are left; for
-  any other number `left` does not matter. Accepted: value is the number of its
-  bytes, which the text begins with, a line feed the last; the bytes after them
-  are 0. The only refusal is 10, size is below DOHVRIN_TEXT, and leaves the text
-  as it was. That the pointer has `size` bytes cannot be checked.
+  Writes a refusal: NO with its number, which may be any. Accepted: value is
+  the number of its bytes, which the text begins with, a line feed the last;
+  the bytes after them are 0. The only refusal is 10, size is below
+  DOHVRIN_TEXT, and leaves the text as it was. That the pointer has `size`
+  bytes cannot be checked.
 */
-struct dohvrin_answer dohvrin_refusal_text(uint64_t number, uint64_t left, uint8_t *text,
-                                           size_t size);
+struct dohvrin_answer dohvrin_refusal_text(uint64_t number, uint8_t *text, size_t size);
 
 /*
   Reads an order from a record of `size` bytes: the length of what follows it

@@ -3,7 +3,7 @@
 
 use crate::orders::Order;
 use crate::plain::{self, search::Best};
-use dohvrin::{Event, Listed, Refusal, Searched, WORK};
+use dohvrin::{Event, Found, Listed, Refusal, WORK};
 
 pub struct Lent {
     order: Order,
@@ -92,7 +92,7 @@ pub fn plain_list(lent: &mut Lent) -> Option<usize> {
     )
 }
 
-/// The best polynomial, or how many are best: none where a table is too small.
+/// The best polynomial: none where a table is too small.
 pub fn library_search(lent: &mut Lent) -> Option<Best> {
     let order = lent.order.given();
     best(dohvrin::search(order, lent.all()))
@@ -104,12 +104,12 @@ pub fn library_quote(lent: &mut Lent, bits: u64) -> Option<Best> {
     best(dohvrin::quote(order, bits, lent.all()))
 }
 
-fn best(searched: Result<Searched, Refusal>) -> Option<Best> {
-    match searched {
-        Ok(Searched::Found(found)) => Some(Best::One(found.polynomial)),
-        Ok(Searched::Tied(left)) => Some(Best::Several(left)),
-        Err(_) => None,
-    }
+fn best(found: Result<Found, Refusal>) -> Option<Best> {
+    let found = found.ok()?;
+    Some(Best {
+        polynomial: found.polynomial,
+        shared: found.shared,
+    })
 }
 
 pub fn plain_search(lent: &mut Lent) -> Option<Best> {

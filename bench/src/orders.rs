@@ -57,7 +57,7 @@ pub const TABLE_2: Order = Order {
     paths: 882_816,
 };
 
-/// Both on a terminated link. The second has no best polynomial: 89 detect all.
+/// Both on a terminated link. In the second 89 polynomials detect all.
 pub const TERMINATED: [Order; 2] = [
     TABLE_1.terminated(11_561, 1_627_283),
     TABLE_2.terminated(11_617, 673_899),

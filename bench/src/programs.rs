@@ -41,10 +41,8 @@ pub fn beside_the_call(turns: usize, order: Order) -> Turns {
         let printed = dso_row(&arguments);
         let program = (programs_nanoseconds() - before) as f64;
         let (library, found) = time(|| lent::library_search(&mut lent));
-        let last = match found.expect("tables large enough") {
-            Best::One(polynomial) => format!("CRC 0x{polynomial:X}\n"),
-            Best::Several(left) => format!("NO 15 {left}\n"),
-        };
+        let Best { polynomial, shared } = found.expect("tables large enough");
+        let last = format!("CRC 0x{polynomial:X} {shared}\n");
         assert!(printed.ends_with(&last), "{printed}");
         times.push(program, library);
     }

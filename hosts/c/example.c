@@ -26,7 +26,7 @@ _Static_assert(offsetof(struct dohvrin_event, high) == 32, "without gaps");
 _Static_assert(sizeof(struct dohvrin_listing) == 24, "three 64-bit numbers");
 _Static_assert(offsetof(struct dohvrin_listing, paths) == 16, "without gaps");
 _Static_assert(sizeof(struct dohvrin_row) == 40, "five 64-bit numbers");
-_Static_assert(offsetof(struct dohvrin_row, left) == 32, "without gaps");
+_Static_assert(offsetof(struct dohvrin_row, shared) == 32, "without gaps");
 _Static_assert(sizeof(struct dohvrin_part) == 24, "three 64-bit numbers");
 _Static_assert(offsetof(struct dohvrin_part, numbers) == 16, "without gaps");
 
@@ -204,18 +204,20 @@ static void print_undetected(struct dohvrin_order order)
     putchar('\n');
 }
 
-/* A row in these counts for this order, or the refusal. 15: several are best. */
+/* A row in these counts for this order, or the refusal. */
 static void print_row(struct dohvrin_order order, struct dohvrin_row row)
 {
     struct dohvrin_answer written;
 
     if (row.refusal != 0)
-        written = dohvrin_refusal_text(row.refusal, row.left, text, sizeof text);
+        written = dohvrin_refusal_text(row.refusal, text, sizeof text);
     else
-        written = dohvrin_row_text(order, row.events, row.paths, row.polynomial,
+        written = dohvrin_row_text(order, row.events, row.paths, row.polynomial, row.shared,
                                    counts, DOHVRIN_COUNTS, undetected, DOHVRIN_COUNTS,
                                    text, sizeof text);
     fwrite(text, 1, written.value, stdout);
+    if (row.shared > 1)
+        printf("  as good by these counts: %" PRIu64 " more\n", row.shared - 1);
 }
 
 /* How many events are in the table, which has zeros after them. */

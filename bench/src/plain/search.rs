@@ -10,15 +10,15 @@ use std::cmp::Ordering;
 
 /// What a search finds.
 #[derive(Debug, PartialEq, Eq)]
-pub enum Best {
-    One(u64),
-    /// So many share the best counts.
-    Several(u64),
+pub struct Best {
+    /// The smallest with the best counts.
+    pub polynomial: u64,
+    /// How many have them.
+    pub shared: u64,
 }
 
-/// The best polynomial of degree m, or how many there are: their counts are left
-/// in `undetected`; the other tables are as `list` leaves them. Nothing where a
-/// table is too small.
+/// The best polynomial of degree m: its counts are left in `undetected`; the other
+/// tables are as `list` leaves them. Nothing where a table is too small.
 pub fn search(
     code: Code,
     m: u64,
@@ -40,9 +40,9 @@ pub fn search(
             Ordering::Greater => {}
         }
     }
-    Some(match best[..] {
-        [polynomial] => Best::One(polynomial),
-        _ => Best::Several(best.len() as u64),
+    Some(Best {
+        polynomial: *best.first()?,
+        shared: best.len() as u64,
     })
 }
 

@@ -124,7 +124,7 @@ fn ask(code: Code) -> Result<Kind, Refusal> {
     questions::generator_bits(code.memory, code.generators)?;
     match code.generators.iter().fold(0, |d, &g| gcd(d, g)) {
         1 => Ok(kind),
-        _ => Err(Refusal::No(16)),
+        _ => Err(Refusal(16)),
     }
 }
 

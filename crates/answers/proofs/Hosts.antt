@@ -3,7 +3,7 @@
 use mathlib.Core.Path.{_≡_, refl, sym, ap, ap₂, _∙_, subst}
 use Prim.Native.Nat.{ℕ, _+_, _*_, _^_, _<_}
 use lib.Pow.{high, low}
-use Rattle.order.specs.Answer.{Answer, accepted, refused, refusedWith, refusalNumber}
+use Rattle.order.specs.Answer.{Answer, accepted, refused, refusalNumber}
 use Rattle.order.specs.Order.{Order}
 use Rattle.order.specs.Answers.{readingOf}
 use Rattle.crc.specs.Check.{Stripping, Divisibility}
@@ -94,12 +94,10 @@ module _ {L : Type 0} (left : L) where
 
   pub search-answer : (a : Searched) (r : SearchAnswer) (x : Answer Found × L) → r ≡ ofSearched a → (searchedAs a, left) ≡ x → (r, left) ≡ rowAnswer x
   unfolding rowAnswer searchAnswer
-  search-answer (Q.Found n k p) r x e ex = ap (λ (s : SearchAnswer). (s, left)) e ∙ ap rowAnswer ex
+  search-answer (Q.Found n k p s′) r x e ex = ap (λ (s : SearchAnswer). (s, left)) e ∙ ap rowAnswer ex
   search-answer (Q.Refused k) r x e ex = ap (λ (s : SearchAnswer). (s, left)) e ∙ ap rowAnswer ex
-  search-answer (Q.Tied k) r x e ex = ap (λ (s : SearchAnswer). (s, left)) e ∙ ap rowAnswer ex
 
 pub order-told : (x : Answer Order) → ofReading (readingOf x) ≡ orderAnswer x
 unfolding readingOf orderAnswer
 order-told (accepted o) = refl
 order-told (refused k) = refl
-order-told (refusedWith k added) = refl

@@ -3,7 +3,7 @@
 use mathlib.Core.Bool.{cond}
 use mathlib.Core.List.{List}
 use Prim.Native.Nat.{ℕ, _-_, _*_, _/_, _%_, _^_}
-use Rattle.order.specs.Answer.{Answer, accepted, refused, refusedWith, refusalNumber}
+use Rattle.order.specs.Answer.{Answer, accepted, refused, refusalNumber}
 use Rattle.order.specs.Order.{Order, ofWeight}
 use Rattle.order.specs.Answers.{recordOf}
 use Rattle.order.specs.declared.record.OrderRecord.{OrderRecord}
@@ -31,7 +31,6 @@ wordAnswer u = record { refusal = 0; value = 0; low = u % 2 ^ 64; high = u / 2 ^
 unfoldable pub told : {A : Type 0} → (A → HostAnswer) → Answer A → HostAnswer
 told shown (accepted x) = shown x
 told shown (refused k) = refusalAnswer k
-told shown (refusedWith k added) = refusalAnswer k
 
 -- the same with what a call leaves
 unfoldable pub toldWith : {A L : Type 0} → (A → HostAnswer) → Answer A × L → HostAnswer × L
@@ -55,16 +54,14 @@ numbered (a, left) = (refusalNumber a, left)
 unfoldable pub pathAnswer : Answer Listing → ListAnswer
 pathAnswer (accepted x) = record { refusal = 0; events = x .events; paths = x .paths }
 pathAnswer (refused k) = record { refusal = k; events = 0; paths = 0 }
-pathAnswer (refusedWith k added) = record { refusal = k; events = 0; paths = 0 }
 
 unfoldable pub pathsAnswer : {L : Type 0} → Answer Listing × L → ListAnswer × L
 pathsAnswer (a, left) = (pathAnswer a, left)
 
--- the search: how many events and paths, and the best polynomial; for refusal 15 how many are left; and the tables that it leaves
+-- the search: how many events and paths, the best polynomial, and how many share its counts; and the tables that it leaves
 unfoldable pub searchAnswer : Answer Found → SearchAnswer
-searchAnswer (accepted x) = record { refusal = 0; events = x .events; paths = x .paths; polynomial = x .polynomial; left = 0 }
-searchAnswer (refused k) = record { refusal = k; events = 0; paths = 0; polynomial = 0; left = 0 }
-searchAnswer (refusedWith k left) = record { refusal = k; events = 0; paths = 0; polynomial = 0; left = left }
+searchAnswer (accepted x) = record { refusal = 0; events = x .events; paths = x .paths; polynomial = x .polynomial; shared = x .shared }
+searchAnswer (refused k) = record { refusal = k; events = 0; paths = 0; polynomial = 0; shared = 0 }
 
 unfoldable pub rowAnswer : {L : Type 0} → Answer Found × L → SearchAnswer × L
 rowAnswer (a, left) = (searchAnswer a, left)
@@ -81,4 +78,3 @@ noOrder = record { version = 0; n = 0; v = 0; bits = 0; m = 0; d = 0; g1 = 0; g2
 unfoldable pub orderAnswer : Answer Order → OrderAnswer
 orderAnswer (accepted o) = record { refusal = 0; order = recordOf o }
 orderAnswer (refused k) = record { refusal = k; order = noOrder }
-orderAnswer (refusedWith k added) = record { refusal = k; order = noOrder }

@@ -39,14 +39,14 @@ pub struct ListAnswer {
     pub paths: u64,
 }
 
-// How many events and paths were listed, and the best polynomial; or the number of the refusal and zeros, for 15 also how many are left.
+// How many events and paths were listed, the best polynomial, and how many share its counts; or the number of the refusal and zeros.
 #[repr(C)]
 pub struct SearchAnswer {
     pub refusal: u64,
     pub events: u64,
     pub paths: u64,
     pub polynomial: u64,
-    pub left: u64,
+    pub shared: u64,
 }
 
 // Where the words of one weight stand in the caller's path table: their first number, and how many numbers; or refusal 10 and zeros.
@@ -157,15 +157,21 @@ pub fn listed(a: Listed) -> ListAnswer
     }
 }
 
-fn search_answer(refusal: u64, events: u64, paths: u64, polynomial: u64, left: u64) -> SearchAnswer
-    ensures { λ r. ⌜ r ≡ record { refusal = refusal; events = events; paths = paths; polynomial = polynomial; left = left } ⌝ }
+fn search_answer(
+    refusal: u64,
+    events: u64,
+    paths: u64,
+    polynomial: u64,
+    shared: u64,
+) -> SearchAnswer
+    ensures { λ r. ⌜ r ≡ record { refusal = refusal; events = events; paths = paths; polynomial = polynomial; shared = shared } ⌝ }
 {
     SearchAnswer {
         refusal,
         events,
         paths,
         polynomial,
-        left,
+        shared,
     }
 }
 
@@ -173,15 +179,14 @@ pub fn searched(a: Searched) -> SearchAnswer
     ensures { λ r. ⌜ r ≡ ofSearched a ⌝ }
 {
     match a {
-        Searched::Found(events, paths, polynomial) => search_answer(
+        Searched::Found(events, paths, polynomial, shared) => search_answer(
             0,
             events,
             paths,
             polynomial,
-            0,
+            shared,
         ),
         Searched::Refused(k) => search_answer(k, 0, 0, 0, 0),
-        Searched::Tied(left) => search_answer(15, 0, 0, 0, left),
     }
 }
 

@@ -47,6 +47,10 @@ pub candidate-member : (m k : ℕ) → k < 2 ^ (m - 1) → List·Memᴰ (2 ^ m +
 unfolding candidates
 candidate-member m k h = Memᴰ·map (λ k. 2 ^ m + 2 * k + 1) (in-upFrom 0 (2 ^ (m - 1)) (omega arith) (omega arith))
 
+-- there is one
+pub some-candidate : (m : ℕ) → List·Memᴰ (2 ^ m + 2 * 0 + 1) (candidates m)
+some-candidate m = candidate-member m 0 (one-le-pow (m - 1) 2 (omega arith))
+
 module _ (m : ℕ) (positive : 1 ≤ m) where
   numbered : (k : ℕ) → k < 2 ^ (m - 1) → IsCandidate m (2 ^ m + 2 * k + 1)
   numbered k h =

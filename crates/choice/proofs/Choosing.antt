@@ -10,8 +10,11 @@ use Rattle.lists.specs.Lists.{upFrom}
 use Rattle.lists.proofs.Member.{upFrom-bounds, of-filter}
 use Rattle.undetected.specs.Model.Steps.{dividedCounts, countedFrom}
 use Rattle.undetected.proofs.Counts.{length-dividedCounts}
-use Rattle.choice.specs.Model.Steps.{firstOf, leftOver, flagsLeft, aliveBelow, laid}
-use Rattle.choice.proofs.Remaining.{some-left, left-alive}
+use Rattle.choice.specs.Choice.{candidates, firstOf}
+use Rattle.choice.specs.Model.Steps.{leftOver, flagsLeft, aliveBelow, laid}
+use Rattle.choice.proofs.Candidates.{some-candidate}
+use Rattle.choice.proofs.Best.{best-nonempty}
+use Rattle.choice.proofs.Remaining.{left-alive}
 use Rattle.choice.proofs.Weighed.{counted-laid, take-laid, laid-again}
 
 -- ---- the first flag that is up
@@ -64,7 +67,7 @@ module _ (m entries : ℕ) (table plain : List ℕ) where
     pub left-first : (first p : ℕ) → first ≡ firstOf (aliveBelow alive n) → p ≡ 2 ^ m + 2 * first + 1 → p ≡ firstOf (leftOver m table plain entries)
     unfolding leftOver
     left-first first p e named =
-        let some = some-left m counts entries counts-length in
+        let some = best-nonempty counts (candidates m) (some-candidate m) in
         let g : ℕ → ℕ = λ k. 2 ^ m + 2 * k + 1 in
         let up : List·Memᴰ (some .0) (map g (aliveBelow alive n)) = subst (List·Memᴰ (some .0)) left-is-alive (some .1) in
         named ∙ ap g e ∙ sym (ap firstOf left-is-alive ∙ firstOf-map g (aliveBelow alive n) (some .0, up))

@@ -6,10 +6,10 @@ use native.Mathlib.Nat.{le-of-suc-le-suc}
 use native.Mathlib.Decide.{decLt}
 use native.Mathlib.Omega.{arith}
 use mathlib.Core.Path.{_≡_, refl, sym, _∙_, ap₂, subst}
-use mathlib.Core.Bool.{_&&_}
+use mathlib.Core.Bool.{not, _&&_}
 use mathlib.Core.Logic.{_↔_, _⊎_, inl, inr, ⊎-elim}
 use mathlib.Core.List.{List, [], _∷_}
-use lib.Dec.{T, ltb, eqb, ltb→lt, lt→ltb, eqb→eq, eqb-refl}
+use lib.Dec.{T, not-T, ltb, eqb, ltb→lt, lt→ltb, eqb→eq, eqb-refl}
 use lib.ListN.{length, getD}
 use Rattle.lists.proofs.Tests.{T-and, T-or}
 use Rattle.choice.specs.Choice.{fewer}
@@ -67,6 +67,9 @@ fewer⇔lowest a b = (lowest-of-fewer a b, fewer-of-lowest a b)
 
 pub fewer-irreflexive : (a : List ℕ) → T (fewer a a) → ⊥
 fewer-irreflexive a h = let l = lowest-of-fewer a a h in omega arith
+
+pub not-itself : (a : List ℕ) → T (not (fewer a a))
+not-itself a = not-T (fewer a a) (fewer-irreflexive a)
 
 pub fewer-transitive : (a b c : List ℕ) → T (fewer a b) → T (fewer b c) → T (fewer a c)
 unfolding fewer

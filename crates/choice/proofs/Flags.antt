@@ -11,7 +11,8 @@ use lib.ListN.{length, getD, set, length-append}
 use Rattle.lists.specs.Lists.{upFrom, filter}
 use Rattle.lists.proofs.Lengths.{length-upFrom, length-filter-le, upFrom-last, upFrom-append}
 use Rattle.lists.proofs.Filters.{filter-append, filter-one}
-use Rattle.choice.specs.Model.Steps.{dropped, aliveBelow, firstOf}
+use Rattle.choice.specs.Choice.{firstOf}
+use Rattle.choice.specs.Model.Steps.{dropped, aliveBelow}
 
 -- ---- put down from the front
 

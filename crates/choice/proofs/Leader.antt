@@ -17,7 +17,7 @@ use Rattle.lists.proofs.Tests.{passes-or-fails, true-of-T}
 use Rattle.lists.proofs.Choices.{cond-true, cond-false}
 use Rattle.choice.specs.Choice.{fewer}
 use Rattle.choice.specs.Model.Steps.{dropped}
-use Rattle.choice.proofs.Fewer.{fewer-irreflexive, fewer-transitive, fewer-asymmetric, fewer-total}
+use Rattle.choice.proofs.Fewer.{not-itself, fewer-transitive, fewer-asymmetric, fewer-total}
 use Rattle.choice.proofs.Flags.{length-dropped, dropped-before, dropped-after}
 
 -- the best of the first k; that of the first one, if k is 0
@@ -40,9 +40,6 @@ pub record Among (f : ℕ → List ℕ) (k : ℕ) (a : List ℕ) : Type 0 where
 -- what holds below k and at k
 below-suc : (P : ℕ → Type 0) (k : ℕ) → ((j : ℕ) → j < k → P j) → P k → (j : ℕ) → j < suc k → P j
 below-suc P k below here j h = ⊎-elim (λ e. subst P (sym e) here) (below j) (eq-or-lt-of-le (le-of-suc-le-suc h))
-
-pub not-itself : (a : List ℕ) → T (not (fewer a a))
-not-itself a = not-T (fewer a a) (fewer-irreflexive a)
 
 module _ (f : ℕ → List ℕ) (entries : ℕ) (sized : (j : ℕ) → length (f j) ≡ entries) where
   -- ---- one more is met

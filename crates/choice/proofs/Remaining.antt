@@ -4,27 +4,24 @@ use Prim.Native.Nat.{ℕ, _+_, _-_, _*_, _^_, _≤_, _<_}
 use native.Mathlib.Nat.{zero-add, one-le-pow}
 use native.Mathlib.Decide.{decLt}
 use native.Mathlib.Omega.{arith}
-use mathlib.Core.Path.{_≡_, refl, sym, ap, _∙_, subst}
+use mathlib.Core.Path.{_≡_, sym, ap, _∙_, subst}
 use mathlib.Core.Bool.{Bool, true, false, not}
 use mathlib.Core.Logic.{_⊎_, ⊎-elim}
-use mathlib.Core.List.{List, [], _∷_, map, map-map, List·Memᴰ, List·Memᴰ·head, List·Memᴰ·not-nil}
+use mathlib.Core.List.{List, map, map-map}
 use lib.Dec.{T, T-not, not-T}
 use lib.ListN.{length, getD, length-map}
 use lib.Seq.{ext-getD}
 use Rattle.lists.specs.Lists.{upFrom, filter, padded}
 use Rattle.lists.proofs.Tests.{true-of-T, false-of-T-not}
-use Rattle.lists.proofs.Member.{upFrom-bounds, of-filter, in-filter, mem-not-any}
+use Rattle.lists.proofs.Member.{upFrom-bounds, of-filter, mem-not-any}
 use Rattle.lists.proofs.Lengths.{getD-map-upFrom, length-padded, getD-padded-inside, getD-padded-after}
-use Rattle.choice.specs.Choice.{candidates, fewer}
-use Rattle.choice.specs.Model.Steps.{unbettered, bestBy, firstOf, flagsLeft, aliveBelow}
-use Rattle.choice.proofs.Candidates.{few-candidates, candidate-number, candidate-member, length-candidates}
+use Rattle.choice.specs.Choice.{candidates, fewer, unbettered, best, firstOf}
+use Rattle.choice.specs.Model.Steps.{flagsLeft, aliveBelow}
+use Rattle.choice.proofs.Candidates.{few-candidates, candidate-number, candidate-member, some-candidate, length-candidates}
 use Rattle.lists.proofs.Filters.{filter-cong-on, filter-map}
-use Rattle.choice.proofs.Leader.{leader, Alive, Among, not-itself, leader-member, leader-least, level-or-worse}
-
-firstOf-member : {p : ℕ} (l : List ℕ) → List·Memᴰ p l → List·Memᴰ (firstOf l) l
-unfolding firstOf
-firstOf-member [] member = absurd (List·Memᴰ·not-nil member)
-firstOf-member (q ∷ l) member = List·Memᴰ·head refl
+use Rattle.choice.proofs.Fewer.{not-itself}
+use Rattle.choice.proofs.Best.{firstOf-member, best-nonempty}
+use Rattle.choice.proofs.Leader.{leader, Alive, Among, leader-member, leader-least, level-or-worse}
 
 module _ (m : ℕ) (counts : ℕ → List ℕ) where
   -- the counts of candidate k
@@ -96,18 +93,11 @@ module _ (m : ℕ) (counts : ℕ → List ℕ) where
 
     -- ---- the first that is left has the best counts
 
-    pub some-left : (p : ℕ) × List·Memᴰ p (bestBy counts (candidates m))
-    unfolding bestBy
-    some-left =
-        let i = last-member in
-        let up = level-unbettered (i .place) (i .met) (i .same) in
-        (2 ^ m + 2 * i .place + 1, in-filter left (candidates m) (candidate-member m (i .place) (i .met)) up)
-
-    pub best-counts : counts (firstOf (bestBy counts (candidates m))) ≡ last
-    unfolding bestBy
+    pub best-counts : counts (firstOf (best counts (candidates m))) ≡ last
+    unfolding best
     best-counts =
         let ps : List ℕ = candidates m in
-        let first = of-filter left ps (firstOf-member (filter left ps) (some-left .1)) in
+        let first = of-filter left ps (firstOf-member (filter left ps) (best-nonempty counts ps (some-candidate m) .1)) in
         let j = candidate-number m (firstOf (filter left ps)) (first .0) in
         let stands : T (left (2 ^ m + 2 * j .k + 1)) = subst (λ (p : ℕ). T (left p)) (sym (j .named)) (first .1) in
         ap counts (sym (j .named))
@@ -144,8 +134,8 @@ module _ (m : ℕ) (counts : ℕ → List ℕ) where
               ∙ sym (getD-padded-after 2048 true (map left (candidates m)) j false (omega (arith, flags-length)) (omega (arith, h .size)))
 
       -- the candidates that are left are those whose flags are up
-      pub left-alive : bestBy counts (candidates m) ≡ map (λ k. 2 ^ m + 2 * k + 1) (aliveBelow (flagsLeft m counts) (2 ^ (m - 1)))
-      unfolding bestBy aliveBelow candidates
+      pub left-alive : best counts (candidates m) ≡ map (λ k. 2 ^ m + 2 * k + 1) (aliveBelow (flagsLeft m counts) (2 ^ (m - 1)))
+      unfolding best aliveBelow candidates
       left-alive =
           filter-map left (λ k. 2 ^ m + 2 * k + 1) (upFrom 0 (2 ^ (m - 1)))
           ∙ ap (map (λ k. 2 ^ m + 2 * k + 1))

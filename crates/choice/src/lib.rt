@@ -4,16 +4,17 @@
 ghost use mathlib.Core.Path.{_≡_};
 ghost use Prim.Native.Nat.{_+_, _*_, _^_, _≤_};
 ghost use lib.ListN.{length};
-ghost use Rattle.choice.specs.Model.Steps.{dropped, aliveBelow, firstOf, LeftAlive, Chose, ToName, ToChoose, ToCompare};
+ghost use Rattle.choice.specs.Choice.{firstOf};
+ghost use Rattle.choice.specs.Model.Steps.{dropped, aliveBelow, LeftAlive, Chose, ToName, ToChoose, ToCompare};
 use parity::check_table;
 use poly::word::power;
 use undetected::count_from;
 use undetected::count_up_to;
 
-// How many candidates are left, and the first of them.
+// The first of the candidates with the best counts, and how many have them.
 pub struct Outcome {
-    pub left: u64,
     pub polynomial: u64,
+    pub shared: u64,
 }
 
 // Candidate k of degree m: its constant term is 1.
@@ -102,17 +103,18 @@ fn first_alive(alive: &[bool; 2048], n: usize) -> usize
     requires { ⌜ n ≤ 2048 ⌝ }
     ensures { λ r. ⌜ r ≡ firstOf (aliveBelow (now (alive .entry)) n) ⌝ }
 {
-    let mut k = 0;
-    while k < n {
-        if alive[k] {
-            return k;
+    let mut first = 0;
+    while first < n {
+        if alive[first] {
+            return first;
         }
-        k += 1;
+        first += 1;
     }
     0
 }
 
-// The best of all candidates of degree m, by the words of a path table and so many entries of the plain counts; its counts are left in the undetected list.
+// The best of all candidates of degree m, by the words of a path table and so many entries of the plain counts; where several share the best counts, the
+// smallest. The counts are left in the undetected list.
 pub fn choose(
     table: &[u64],
     plain: &[u64],
@@ -137,10 +139,10 @@ pub fn choose(
         0,
     );
     let alive = compare(table, plain, undetected, bits, m, entries, n);
-    let left = count_alive(&alive, n);
+    let shared = count_alive(&alive, n);
     let first = first_alive(&alive, n);
     Outcome {
-        left,
         polynomial: candidate(m, first),
+        shared,
     }
 }

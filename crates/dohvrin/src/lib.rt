@@ -138,7 +138,7 @@ pub extern "C" fn dohvrin_list(
     listed(list(order, events, paths, plain, work))
 }
 
-// The best check polynomial of an order.
+// The best check polynomial of an order, and how many share its counts.
 #[no_mangle]
 pub extern "C" fn dohvrin_search(
     order: OrderRecord,
@@ -206,19 +206,29 @@ pub extern "C" fn dohvrin_row_text(
     events: u64,
     paths: u64,
     polynomial: u64,
+    shared: u64,
     plain: &[u64],
     undetected: &[u64],
     text: &mut [u8],
 ) -> HostAnswer
-    ensures { λ r. ⌜ (r, now (text .exit)) ≡ toldWith numberAnswer (rowCall (orderIn order) events paths polynomial (now (plain .entry)) (now (undetected .entry)) (now (text .entry))) ⌝ }
+    ensures { λ r. ⌜ (r, now (text .exit)) ≡ toldWith numberAnswer (rowCall (orderIn order) events paths polynomial shared (now (plain .entry)) (now (undetected .entry)) (now (text .entry))) ⌝ }
 {
-    written(write_row(order, events, paths, polynomial, plain, undetected, text))
+    written(write_row(
+        order,
+        events,
+        paths,
+        polynomial,
+        shared,
+        plain,
+        undetected,
+        text,
+    ))
 }
 
-// The text of a refusal; `left` is told with number 15 alone.
+// The text of a refusal.
 #[no_mangle]
-pub extern "C" fn dohvrin_refusal_text(number: u64, left: u64, text: &mut [u8]) -> HostAnswer
-    ensures { λ r. ⌜ (r, now (text .exit)) ≡ toldWith numberAnswer (refusalCall number left (now (text .entry))) ⌝ }
+pub extern "C" fn dohvrin_refusal_text(number: u64, text: &mut [u8]) -> HostAnswer
+    ensures { λ r. ⌜ (r, now (text .exit)) ≡ toldWith numberAnswer (refusalCall number (now (text .entry))) ⌝ }
 {
-    written(write_refusal(number, left, text))
+    written(write_refusal(number, text))
 }

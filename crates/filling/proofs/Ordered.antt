@@ -1,6 +1,6 @@
 -- What the filling takes of an accepted order: the bounds and the facts that the laws of words, walks and weights ask for (`Ordered`).
 -- Assumes nothing.
-use Prim.Native.Nat.{ℕ, _≤_, _<_}
+use Prim.Native.Nat.{_≤_, _<_}
 use native.Mathlib.Omega.{arith}
 use mathlib.Core.Path.{_≡_}
 use mathlib.Core.List.{[]}

@@ -11,7 +11,7 @@ use lib.Dec.{T, T-not, ltb, eqb}
 use Rattle.lists.proofs.Tests.{T-and}
 use Rattle.lists.proofs.Choices.{eqb-passes}
 use Rattle.order.specs.Questions.{Question, firstNo}
-use Rattle.order.specs.Answer.{Answer, accepted, refused, refusedWith, unless, unlessRefused}
+use Rattle.order.specs.Answer.{Answer, accepted, refused, unless, unlessRefused}
 
 -- the first number, or where it is 0 the second
 abbrev pub orElse : ℕ → ℕ → ℕ
@@ -98,9 +98,6 @@ module _ {A L : Type 0} (lent : L) (outcome : Answer A × L) where
 -- a refusal is no other answer
 pub refused-not-accepted : {A : Type 0} (r : ℕ) (x : A) → refused r ≡ accepted x → ⊥
 refused-not-accepted r x same = let z : _≡_ {A = ℕ} 0 1 = cc in omega arith
-
-pub refused-not-with : {A : Type 0} (r k added : ℕ) → _≡_ {A = Answer A} (refused r) (refusedWith k added) → ⊥
-refused-not-with r k added same = let z : _≡_ {A = ℕ} 0 1 = cc in omega arith
 
 -- ---- no refusal: every question says yes
 

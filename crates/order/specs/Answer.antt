@@ -1,4 +1,4 @@
--- What a call answers: its values, or document 01's number of the question that says no, with what document 01 adds to it (15: how many are left).
+-- What a call answers: its values, or document 01's number of the question that says no.
 -- Every enum of the library has a definition of what its cases say in these words (`weighedAs`, `searchedAs`, ..), and the promises use it.
 -- Assumes nothing.
 use Prim.Native.Nat.{ℕ, zero, suc}
@@ -6,13 +6,11 @@ use Prim.Native.Nat.{ℕ, zero, suc}
 pub data Answer (A : Type 0) : Type 0 where
   accepted : A → Answer A
   refused : (number : ℕ) → Answer A
-  refusedWith : (number added : ℕ) → Answer A
 
 -- document 01's number of an answer: 0 where the call is accepted
 unfoldable pub refusalNumber : {A : Type 0} → Answer A → ℕ
 refusalNumber (accepted x) = 0
 refusalNumber (refused k) = k
-refusalNumber (refusedWith k added) = k
 
 -- The answer of a call that is lent nothing: the number of the first question that says no, or else the answer.
 unfoldable pub unless : {A : Type 0} → ℕ → Answer A → Answer A

@@ -28,4 +28,3 @@ recordOf o =
 unfoldable pub readingOf : Answer Order → Reading
 readingOf (A.accepted o) = R.Order (recordOf o)
 readingOf (A.refused k) = R.Refused k
-readingOf (A.refusedWith k added) = R.Refused k

@@ -1,6 +1,6 @@
 -- Document 01's questions 2 to 12, with 16 of document 02 (C-11) after 9, each as a test, and the number of the first that says no.
--- Question 1 is about the bytes of a record (`Order.antt`, which has the questions about a whole order); 13 to 15 are asked once events,
--- paths and candidates have been counted (`search`). A call asks the questions about the values that it takes, in the order in which they stand here.
+-- Question 1 is about the bytes of a record (`Order.antt`, which has the questions about a whole order); 13 and 14 are asked once events
+-- and paths have been counted (`listing`). A call asks the questions about the values that it takes, in the order in which they stand here.
 -- Assumes nothing.
 use Prim.Native.Nat.{ℕ, _+_, _-_, _/_, _^_}
 use mathlib.Core.Bool.{Bool, cond, not, _&&_}

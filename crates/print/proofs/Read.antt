@@ -24,7 +24,7 @@ use Rattle.print.specs.Model.Steps.{Small}
 -- what is printed for an answer of `read_order`
 shownFor : Reading → List ℕ
 shownFor (R.Order o) = printedSearch (orderIn o) (searchCall (orderIn o) lent)
-shownFor (R.Refused k) = refusalText k 0
+shownFor (R.Refused k) = refusalText k
 
 -- what is known of it
 Known : Reading → Type 0
@@ -76,6 +76,6 @@ module _ (bytes : List ℕ) where
   unfolding shownFor
   read-order-shown o e = ap shownFor e ∙ shown
 
-  pub read-refusal-shown : (k : ℕ) → R.Refused k ≡ readingOf (read bytes) → refusalText k 0 ≡ printed bytes
+  pub read-refusal-shown : (k : ℕ) → R.Refused k ≡ readingOf (read bytes) → refusalText k ≡ printed bytes
   unfolding shownFor
   read-refusal-shown k e = ap shownFor e ∙ shown

@@ -16,10 +16,11 @@ use Rattle.events.specs.Events.{isListed, eventsOfLength, eventsOfState, events
 use Rattle.poly.specs.Word.{halves}
 use Rattle.paths.specs.Paths.{words, wordsOfWeight, weights, paths, plainCounts, pathTable, pathRoom}
 use Rattle.undetected.specs.Undetected.{passes, undetectedCount, undetectedCounts}
-use Rattle.choice.specs.Choice.{candidates, fewer, betters, best, choiceOf, choice}
+use Rattle.choice.specs.Choice.{candidates, fewer, unbettered, best, firstOf, choiceAmong, choice}
 use Rattle.listing.specs.Calls.{unlessTooMany}
 use Rattle.search.specs.Calls.{clearedSearch, filledSearch, searchQuestions, chosen, searched, searchCall}
-use Rattle.text.specs.Text.{digit, digits, numeral, decimal, octal, hexadecimal, line, wORDER, wEVENTS, wPATHS, wA, wCRC, wNO, orderLine, countLine, rowText, refusalText}
+use Rattle.lines.specs.Lines.{digit, digits, numeral, decimal, octal, hexadecimal, line, wORDER, wEVENTS, wPATHS, wA, wCRC, wNO, orderLine, countLine, polynomialLine}
+use Rattle.text.specs.Text.{rowText, refusalText}
 use Rattle.print.specs.Printed.{lent, printedRow, printedSearch, printedReading, printed}
 
 -- 00 0A 01 02 01 04 02 06 00 01 00 03
@@ -32,8 +33,8 @@ document-printed : printed (0 ∷ 10 ∷ 1 ∷ 2 ∷ 1 ∷ 4 ∷ 2 ∷ 6 ∷ 0 �
     ∷ 65 ∷ 32 ∷ 51 ∷ 32 ∷ 52 ∷ 32 ∷ 48 ∷ 10
     ∷ 65 ∷ 32 ∷ 52 ∷ 32 ∷ 53 ∷ 32 ∷ 49 ∷ 10
     ∷ 65 ∷ 32 ∷ 53 ∷ 32 ∷ 52 ∷ 32 ∷ 48 ∷ 10
-    ∷ 67 ∷ 82 ∷ 67 ∷ 32 ∷ 48 ∷ 120 ∷ 53 ∷ 10 ∷ []
-unfolding flatMap onesIn ones upFrom filter count all any padded cleared bit _⊕_ digitsThrough horner _⊗_ register remainder terminated stepsOf output eventStates weightOf weight next tapped stepOutput stepWeight walkWeight firstMeets firstNo from-to inRange hasBit workSize divides total shareFactor shapeQuestions numberQuestions generatorQuestions orderQuestions unless unlessRefused isListed eventsOfLength eventsOfState events entry noEvent eventTable words wordsOfWeight weights paths plainCounts halves pathTable pathRoom passes undetectedCount undetectedCounts candidates fewer betters best choiceOf choice unlessTooMany clearedSearch filledSearch searchQuestions chosen searched searchCall digit digits numeral decimal octal hexadecimal line wORDER wEVENTS wPATHS wA wCRC ofWeight orderLine countLine rowText be16 readGenerators readFields lengthRight versionRight countRight recordQuestions read lent printedRow printedSearch printedReading printed
+    ∷ 67 ∷ 82 ∷ 67 ∷ 32 ∷ 48 ∷ 120 ∷ 53 ∷ 32 ∷ 49 ∷ 10 ∷ []
+unfolding flatMap onesIn ones upFrom filter count all any padded cleared bit _⊕_ digitsThrough horner _⊗_ register remainder terminated stepsOf output eventStates weightOf weight next tapped stepOutput stepWeight walkWeight firstMeets firstNo from-to inRange hasBit workSize divides total shareFactor shapeQuestions numberQuestions generatorQuestions orderQuestions unless unlessRefused isListed eventsOfLength eventsOfState events entry noEvent eventTable words wordsOfWeight weights paths plainCounts halves pathTable pathRoom passes undetectedCount undetectedCounts candidates fewer unbettered best firstOf choiceAmong choice unlessTooMany clearedSearch filledSearch searchQuestions chosen searched searchCall digit digits numeral decimal octal hexadecimal line wORDER wEVENTS wPATHS wA wCRC ofWeight orderLine countLine polynomialLine rowText be16 readGenerators readFields lengthRight versionRight countRight recordQuestions read lent printedRow printedSearch printedReading printed
 document-printed = refl
 
 -- NO 1

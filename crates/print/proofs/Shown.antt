@@ -15,7 +15,7 @@ use Rattle.order.specs.Order.{Order}
 use Rattle.order.specs.declared.record.OrderRecord.{OrderRecord}
 use Rattle.order.proofs.FirstNo.{firstNo-none, firstNo-yes}
 use Rattle.text.specs.Text.{rowText, refusalText}
-use Rattle.order.specs.Answer.{Answer, accepted, refused, refusedWith, unlessRefused}
+use Rattle.order.specs.Answer.{Answer, accepted, refused, unlessRefused}
 use Rattle.order.specs.Answers.{orderIn}
 use Rattle.order.proofs.Asked.{length-orderIn}
 use Rattle.text.specs.Calls.{writtenAs, textSize, laidOut, rowQuestions, rowCall, refusalCall}
@@ -30,7 +30,6 @@ use Rattle.print.specs.Model.Steps.{Counted, counted, ToPrint, Shown, si
 size : Answer ℕ → ℕ
 size (accepted n) = n
 size (refused k) = 0
-size (refusedWith k added) = 0
 
 size-as : (w : Written) → sizeOf w ≡ size (writtenAs w)
 unfolding size
@@ -46,23 +45,23 @@ shown k text before after w end z e s =
     e ∙ ap (λ (j : ℕ). unlessRefused j before (laidOut text before)) z in
     record { whole = ap (λ (x : Answer ℕ × List ℕ). x .1) done; size = s ∙ size-as w ∙ ap (λ (x : Answer ℕ × List ℕ). size (x .0)) done }
 
-pub refusal-shown : (number left : ℕ) (before after : List ℕ) (w : Written) (end : ℕ) → 4096 ≤ length before
-    → (writtenAs w, after) ≡ refusalCall number left before → end ≡ sizeOf w → Shown (refusalText number left) before after end
+pub refusal-shown : (number : ℕ) (before after : List ℕ) (w : Written) (end : ℕ) → 4096 ≤ length before
+    → (writtenAs w, after) ≡ refusalCall number before → end ≡ sizeOf w → Shown (refusalText number) before after end
 unfolding refusalCall textSize
-refusal-shown number left before after w end room e s =
-    shown _ (refusalText number left) before after w end (firstNo-yes _ [] (le-leb 4096 (length before) room) ∙ firstNo-none) e s
+refusal-shown number before after w end room e s =
+    shown _ (refusalText number) before after w end (firstNo-yes _ [] (le-leb 4096 (length before) room) ∙ firstNo-none) e s
 
 within : (low high x : ℕ) → low ≤ x → x ≤ high → from-to low high x ≡ true
 unfolding from-to
 within low high x l h = sym (and-yes (leb low x) (leb x high) (le-leb low x l)) ∙ le-leb x high h
 
-pub row-shown : (o : OrderRecord) (events paths polynomial : ℕ) (plain undetected before after : List ℕ) (w : Written) (end : ℕ)
-    → ToPrint o plain undetected before → (writtenAs w, after) ≡ rowCall (orderIn o) events paths polynomial plain undetected before
-    → end ≡ sizeOf w → Shown (rowText (orderIn o) events paths polynomial plain undetected) before after end
+pub row-shown : (o : OrderRecord) (events paths polynomial shared : ℕ) (plain undetected before after : List ℕ) (w : Written) (end : ℕ)
+    → ToPrint o plain undetected before → (writtenAs w, after) ≡ rowCall (orderIn o) events paths polynomial shared plain undetected before
+    → end ≡ sizeOf w → Shown (rowText (orderIn o) events paths polynomial shared plain undetected) before after end
 unfolding rowCall rowQuestions textSize orderIn
-row-shown o events paths polynomial plain undetected before after w end p e s =
+row-shown o events paths polynomial shared plain undetected before after w end p e s =
     let small = p .small in
-    shown _ (rowText (orderIn o) events paths polynomial plain undetected) before after w end (
+    shown _ (rowText (orderIn o) events paths polynomial shared plain undetected) before after w end (
     firstNo-yes _ _ (within 1 2 (o .version) (small .some-version) (small .known-version))
     ∙ firstNo-yes _ _ (ap (from-to 2 4) (length-orderIn o) ∙ within 2 4 (o .n) (small .two-generators) (small .four-generators))
     ∙ firstNo-yes _ _ (within 1 64 (o .d) (small .some-weight) (small .some-counts))

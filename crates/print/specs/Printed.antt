@@ -5,7 +5,7 @@ use mathlib.Core.List.{List}
 use lib.ListN.{replicate}
 use Rattle.order.specs.Questions.{workSize}
 use Rattle.order.specs.Order.{Order, read}
-use Rattle.order.specs.Answer.{Answer, accepted, refused, refusedWith}
+use Rattle.order.specs.Answer.{Answer, accepted, refused}
 use Rattle.events.specs.Events.{noEvent}
 use Rattle.search.specs.Calls.{Found, SearchTables, searchTables, searchCall}
 use Rattle.text.specs.Text.{rowText, refusalText}
@@ -16,17 +16,15 @@ lent = searchTables (replicate 512 noEvent) (replicate 4096 0) (replicate 63 0) 
 
 -- what the search answers, with the plain and the undetected counts
 unfoldable pub printedRow : Order → Answer Found → (plain undetected : List ℕ) → List ℕ
-printedRow o (accepted f) plain undetected = rowText o (f .events) (f .paths) (f .polynomial) plain undetected
-printedRow o (refused k) plain undetected = refusalText k 0
-printedRow o (refusedWith k left) plain undetected = refusalText k left
+printedRow o (accepted f) plain undetected = rowText o (f .events) (f .paths) (f .polynomial) (f .shared) plain undetected
+printedRow o (refused k) plain undetected = refusalText k
 
 unfoldable pub printedSearch : Order → Answer Found × SearchTables → List ℕ
 printedSearch o s = printedRow o (s .0) (s .1 .plain) (s .1 .undetected)
 
 unfoldable pub printedReading : Answer Order → List ℕ
 printedReading (accepted o) = printedSearch o (searchCall o lent)
-printedReading (refused k) = refusalText k 0
-printedReading (refusedWith k added) = refusalText k 0
+printedReading (refused k) = refusalText k
 
 unfoldable pub printed : List ℕ → List ℕ
 printed bytes = printedReading (read bytes)

@@ -62,11 +62,11 @@ fn size_of(w: Written) -> usize
     }
 }
 
-fn print_refusal(number: u64, left: u64, text: &mut [u8]) -> usize
+fn print_refusal(number: u64, text: &mut [u8]) -> usize
     requires { ⌜ 4096 ≤ length (now text) ⌝ }
-    ensures { λ r. ⌜ Shown (refusalText number left) (now (text .entry)) (now (text .exit)) r ⌝ }
+    ensures { λ r. ⌜ Shown (refusalText number) (now (text .entry)) (now (text .exit)) r ⌝ }
 {
-    size_of(write_refusal(number, left, text))
+    size_of(write_refusal(number, text))
 }
 
 fn print_searched(
@@ -80,9 +80,8 @@ fn print_searched(
     ensures { λ r. ⌜ Shown (printedRow (orderIn o) (searchedAs a) (now (plain .entry)) (now (undetected .entry))) (now (text .entry)) (now (text .exit)) r ⌝ }
 {
     match a {
-        Searched::Found(e, k, p) => size_of(write_row(o, e, k, p, plain, undetected, text)),
-        Searched::Refused(k) => print_refusal(k, 0, text),
-        Searched::Tied(left) => print_refusal(15, left, text),
+        Searched::Found(e, k, p, s) => size_of(write_row(o, e, k, p, s, plain, undetected, text)),
+        Searched::Refused(k) => print_refusal(k, text),
     }
 }
 
@@ -104,6 +103,6 @@ pub fn print(bytes: &[u8], text: &mut [u8]) -> usize
     let reading = read_order(bytes);
     match reading {
         Reading::Order(o) => print_order(o, text),
-        Reading::Refused(k) => print_refusal(k, 0, text),
+        Reading::Refused(k) => print_refusal(k, text),
     }
 }

@@ -5,29 +5,27 @@ use Prim.Native.Nat.{ℕ, zero, suc, _≤_}
 use native.Mathlib.Omega.{arith}
 use mathlib.Core.Path.{_≡_, refl, sym, ap, _∙_, subst}
 use mathlib.Core.Logic.{_↔_, inl, inr}
-use mathlib.Core.List.{List}
 use lib.ListN.{length}
 use Rattle.lists.proofs.Tests.{lt-or-ge}
 use Rattle.lists.proofs.Lengths.{length-filter-le}
 use Rattle.order.specs.Questions.{firstNo}
 use Rattle.order.specs.Order.{Order, withLength}
-use Rattle.order.specs.Answer.{Answer, accepted, refused, refusedWith, unlessRefused}
+use Rattle.order.specs.Answer.{Answer, accepted, refused, unlessRefused}
 use Rattle.order.specs.Answers.{orderIn}
 use Rattle.order.specs.declared.record.OrderRecord.{OrderRecord}
-use Rattle.order.proofs.FirstNo.{leaves-refused, leaves-answered, refused-not-accepted, refused-not-with}
+use Rattle.order.proofs.FirstNo.{leaves-refused, leaves-answered, refused-not-accepted}
 use Rattle.code.specs.Links.{stepsOf}
-use Rattle.events.specs.Events.{events, eventTable}
+use Rattle.events.specs.Events.{events}
 use Rattle.events.proofs.Shorter.{atMost, events-shorter}
 use Rattle.paths.specs.Paths.{paths, pathRoom}
 use Rattle.listing.proofs.Answers.{too-many-events, too-many-paths, all-fit}
-use Rattle.choice.specs.Choice.{Choice, one, tie, choice}
-use Rattle.choice.specs.Best.{SharedBest}
+use Rattle.choice.specs.Choice.{Choice, choice}
 use Rattle.search.specs.declared.Searched.{Searched}
-use Rattle.search.specs.Calls.{Found, searchedAs, SearchTables, searchTables, clearedSearch, filledSearch, searchQuestions, chosen, searched, searchCall}
+use Rattle.search.specs.Calls.{Found, searchedAs, SearchTables, clearedSearch, filledSearch, searchQuestions, chosen, searched, searchCall}
 use Rattle.search.specs.Promise.{NoneRefuses, NamesBest}
 use Rattle.search.proofs.Demand.{demand-3}
 use Rattle.quote.specs.Calls.{quoteQuestions, quoteCall}
-use Rattle.quote.specs.Promise.{MayQuote, SameRow, SharesQuoted, QuotePromise}
+use Rattle.quote.specs.Promise.{MayQuote, SameRow, QuotePromise}
 use Rattle.quote.proofs.Asked.{asks-as-fresh, Lengths, lengths}
 
 abbrev Outcome : Type 0
@@ -62,13 +60,7 @@ module _ (o : Order) (N′ : ℕ) (t : SearchTables) where
   -- the choice is about N′, whatever the events were collected for
   same-chosen : (c : Choice) → SameRow (chosen o q t c) (chosen q q t c)
   unfolding chosen filledSearch
-  same-chosen (one p counts) = record { answer = refl; paths = refl; plain = refl; undetected = refl; work = refl }
-  same-chosen (tie left counts) = record { answer = refl; paths = refl; plain = refl; undetected = refl; work = refl }
-
-  events-kept : (c : Choice) → chosen o q t c .1 .events ≡ eventTable ne o
-  unfolding chosen filledSearch
-  events-kept (one p counts) = refl
-  events-kept (tie left counts) = refl
+  same-chosen c = record { answer = refl; paths = refl; plain = refl; undetected = refl; work = refl }
 
   module _ (may : MayQuote o N′ t) where
     fewer : length (events q) ≤ ne
@@ -130,51 +122,31 @@ module _ (o : Order) (N′ : ℕ) (t : SearchTables) where
         ];
       }
 
-  is-best : (f : Found) → quoteCall o N′ t .0 ≡ accepted f → NamesBest q t (quoteCall o N′ t .1) (f .polynomial)
+  may-accepted : (f : Found) → quoteCall o N′ t .0 ≡ accepted f → MayQuote o N′ t
+  may-accepted f e = may-quote (λ r h. refused-not-accepted r f (sym h ∙ e))
+
+  is-best : (f : Found) → quoteCall o N′ t .0 ≡ accepted f → NamesBest q t (quoteCall o N′ t .1) (f .polynomial) (f .shared)
   is-best f e =
-      let same = quote-is-fresh (may-quote (λ r h. refused-not-accepted r f (sym h ∙ e))) in
-      let best = demand-3 q t .names-best f (sym (same .answer) ∙ e) in
+      let same = quote-is-fresh (may-accepted f e) in
+      let fresh = demand-3 q t .names-best f (sym (same .answer) ∙ e) in
       record {
-        candidate = best .candidate;
-        undetected = same .undetected ∙ best .undetected;
-        divided = best .divided;
-        none-of-weight-0 = best .none-of-weight-0;
-        others-worse = best .others-worse;
+        best = fresh .best;
+        undetected = same .undetected ∙ fresh .undetected;
+        divided = fresh .divided;
+        none-of-weight-0 = fresh .none-of-weight-0;
       }
 
-  is-tied : (k : ℕ) → (quoteCall o N′ t .0 ≡ refusedWith 15 k) ↔ (MayQuote o N′ t × (NoneRefuses q t × ((counts : List ℕ) × SharedBest q k counts)))
-  is-tied k = (
-    λ e. let may = may-quote (λ r h. refused-not-with r 15 k (sym h ∙ e)) in (may, demand-3 q t .refuses-15-exactly k .0 (sym (quote-is-fresh may .answer) ∙ e)),
-    λ h. quote-is-fresh (h .0) .answer ∙ demand-3 q t .refuses-15-exactly k .1 (h .1),
+  is-accepted : ((f : Found) × (quoteCall o N′ t .0 ≡ accepted f)) ↔ (MayQuote o N′ t × NoneRefuses q t)
+  is-accepted = (
+    λ h. let may = may-accepted (h .0) (h .1) in (may, demand-3 q t .accepts-exactly .0 (h .0, sym (quote-is-fresh may .answer) ∙ h .1)),
+    λ h. let f = demand-3 q t .accepts-exactly .1 (h .1) in (f .0, quote-is-fresh (h .0) .answer ∙ f .1),
   )
-
-  is-shared : (k : ℕ) → quoteCall o N′ t .0 ≡ refusedWith 15 k → SharesQuoted o N′ t (quoteCall o N′ t .1) k
-  unfolding searched filledSearch
-  is-shared k e =
-      let other : NotRefused = λ r h. refused-not-with r 15 k (sym h ∙ e) in
-      let may = may-quote other in
-      let same = quote-is-fresh may in
-      let fresh : searchCall q t .0 ≡ refusedWith 15 k = sym (same .answer) ∙ e in
-      let passed = demand-3 q t .refuses-15-exactly k .0 fresh .0 in
-      let left = demand-3 q t .leaves-shared k fresh in
-      let whole : quoteCall o N′ t ≡ chosen o q t (choice q) =
-      as-searched (none-early other) ∙ sym (all-fit o q ne np (clearedSearch t) (chosen o q t (choice q)) (may .events-fit) (passed .paths-fit)) in
-      let kept : quoteCall o N′ t .1 .events ≡ eventTable ne o = ap (λ (x : Outcome). x .1 .events) whole ∙ events-kept (choice q) in
-      record {
-        counts = left .counts;
-        shared = left .shared;
-        tables = λ i. searchTables (kept i) ((same .paths ∙ ap (λ (x : SearchTables). x .paths) (left .tables)) i)
-            ((same .plain ∙ ap (λ (x : SearchTables). x .plain) (left .tables)) i)
-            ((same .undetected ∙ ap (λ (x : SearchTables). x .undetected) (left .tables)) i)
-            ((same .work ∙ ap (λ (x : SearchTables). x .work) (left .tables)) i);
-      }
 
 pub quote-promise : (o : Order) (N′ : ℕ) (lent : SearchTables) → QuotePromise o N′ lent (quoteCall o N′ lent .0) (quoteCall o N′ lent .1)
 quote-promise o N′ lent = record {
   is-fresh = quote-is-fresh o N′ lent;
   names-best = is-best o N′ lent;
-  refuses-15-exactly = is-tied o N′ lent;
-  leaves-shared = is-shared o N′ lent;
+  accepts-exactly = is-accepted o N′ lent;
 }
 
 -- of what `quote` answers and leaves: its contract is the premise

@@ -1,6 +1,6 @@
 -- What quoting a shorter length answers and leaves (document 02, C-13: collect long, quote short): events are collected for words of N bits, the length of
 -- the order, and the row is the one for words of N′ bits, at most N. For every order, every N′ and whatever tables are lent.
--- Questions 5 and 6 are asked of both lengths, 13 of N, 14 and 15 of N′; else they are those of the search, but that 2 wants a tail-biting link.
+-- Questions 5 and 6 are asked of both lengths, 13 of N, 14 of N′; else they are those of the search, but that 2 wants a tail-biting link.
 -- Assumes nothing.
 use Prim.Native.Nat.{ℕ}
 use mathlib.Core.List.{List, [], _∷_, _++_}

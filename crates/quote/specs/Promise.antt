@@ -4,13 +4,11 @@
 use Prim.Native.Nat.{ℕ, _≤_}
 use mathlib.Core.Path.{_≡_}
 use mathlib.Core.Logic.{_↔_}
-use mathlib.Core.List.{List}
 use lib.ListN.{length}
 use Rattle.order.specs.Order.{Order, withLength}
-use Rattle.order.specs.Answer.{Answer, accepted, refusedWith}
+use Rattle.order.specs.Answer.{Answer, accepted}
 use Rattle.events.specs.Events.{events}
-use Rattle.choice.specs.Best.{SharedBest}
-use Rattle.search.specs.Calls.{Found, SearchTables, filledSearch, searchCall}
+use Rattle.search.specs.Calls.{Found, SearchTables, searchCall}
 use Rattle.search.specs.Promise.{NoneRefuses, NamesBest}
 
 -- N′ is at most N, and of the questions that are about N, neither 5 nor 13 refuses
@@ -28,15 +26,7 @@ pub record SameRow (quoted fresh : Answer Found × SearchTables) : Type 0 where
   pub undetected : quoted .1 .undetected ≡ fresh .1 .undetected
   pub work : quoted .1 .work ≡ fresh .1 .work
 
--- several share the best counts for N′: the event table is left as for N, the rest as for N′
-pub record SharesQuoted (o : Order) (N′ : ℕ) (lent left : SearchTables) (how-many : ℕ) : Type 0 where
-  pub counts : List ℕ
-  pub shared : SharedBest (withLength N′ o) how-many counts
-  pub tables : left ≡ filledSearch o (withLength N′ o) counts lent
-
 pub record QuotePromise (o : Order) (N′ : ℕ) (lent : SearchTables) (answer : Answer Found) (left : SearchTables) : Type 0 where
   pub is-fresh : MayQuote o N′ lent → SameRow (answer, left) (searchCall (withLength N′ o) lent)
-  pub names-best : (f : Found) → answer ≡ accepted f → NamesBest (withLength N′ o) lent left (f .polynomial)
-  pub refuses-15-exactly : (k : ℕ) → (answer ≡ refusedWith 15 k)
-      ↔ (MayQuote o N′ lent × (NoneRefuses (withLength N′ o) lent × ((counts : List ℕ) × SharedBest (withLength N′ o) k counts)))
-  pub leaves-shared : (k : ℕ) → answer ≡ refusedWith 15 k → SharesQuoted o N′ lent left k
+  pub names-best : (f : Found) → answer ≡ accepted f → NamesBest (withLength N′ o) lent left (f .polynomial) (f .shared)
+  pub accepts-exactly : ((f : Found) × (answer ≡ accepted f)) ↔ (MayQuote o N′ lent × NoneRefuses (withLength N′ o) lent)

@@ -49,8 +49,8 @@ fn ask_quote(order: OrderRecord, bits: u64, plain: usize, undetected: usize, siz
 }
 
 // The row for words of `bits` bits, at most as long as the order's, from the events of the order: those are left as the event table, and the other tables
-// as the search for the shorter words leaves them, also where several polynomials are best. Refused with 13, which is about the order's own length, or
-// with 14, about the shorter one, all that is lent is zero; refused with an earlier number, nothing is changed.
+// as the search for the shorter words leaves them. Refused with 13, which is about the order's own length, or with 14, about the shorter one, all that is
+// lent is zero; refused with an earlier number, nothing is changed.
 pub fn quote(
     order: OrderRecord,
     bits: u64,

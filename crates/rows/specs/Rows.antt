@@ -1,4 +1,4 @@
--- Document 01's rows marked ●, as document 02 (C-11 to C-15) left them, as one table: what is asked, and every figure of the answer. `proofs/Hold.antt` has
+-- Document 01's rows marked ●, as document 02 (C-11 to C-16) left them, as one table: what is asked, and every figure of the answer. `proofs/Hold.antt` has
 -- the one theorem, that each line's figures are what the definitions give. Where a document leaves a figure out, the line states it all the same.
 -- Polynomials are in hexadecimal, the rest in decimal, as in the document. Code S has v = 1 and generators 1, 3. Links are tail-biting where it is not
 -- said that they are terminated.
@@ -15,7 +15,7 @@ use Rattle.events.specs.declared.Event.{Event}
 use Rattle.events.specs.Events.{ErrorEvent, events, noEvent}
 use Rattle.paths.specs.Paths.{paths, plainCounts, pathTable}
 use Rattle.paths.specs.Part.{partOf, partNumber}
-use Rattle.order.specs.Answer.{Answer, accepted, refused, refusedWith}
+use Rattle.order.specs.Answer.{Answer, accepted, refused}
 use Rattle.search.specs.Calls.{Found, found, SearchTables, searchTables, searchCall}
 use Rattle.quote.specs.Calls.{quoteCall}
 
@@ -115,39 +115,44 @@ paths₄ = pathTable 26 (order 1 1 4 2 6 S)
 unfoldable pub rows : List Line
 rows =
     -- S, N=3, m=2, d=5: 4 events, 7 paths, 0x5, undetected 0 0 0 1 from weight 1 on
-    line 1 3 2 5 S (accepted (found 4 7 0x5))
+    line 1 3 2 5 S (accepted (found 4 7 0x5 1))
     (event 0 1 0 0 ∷ event 0 2 3 1 ∷ event 0 3 4 3 ∷ event 1 1 1 1 ∷ [])
     (1 ∷ 2 ∷ 4 ∷ 7 ∷ 3 ∷ 5 ∷ 6 ∷ [])
     (0 ∷ 0 ∷ 4 ∷ 3 ∷ []) (0 ∷ 0 ∷ 0 ∷ 1 ∷ [])
     -- with d=4: 0x5, all zero
-    ∷ line 1 3 2 4 S (accepted (found 3 4 0x5))
+    ∷ line 1 3 2 4 S (accepted (found 3 4 0x5 1))
     (event 0 1 0 0 ∷ event 0 2 3 1 ∷ event 1 1 1 1 ∷ [])
     (1 ∷ 2 ∷ 4 ∷ 7 ∷ [])
     (0 ∷ 0 ∷ 4 ∷ []) (0 ∷ 0 ∷ 0 ∷ [])
-    -- with d=3: refusal 15, two left
-    ∷ line 1 3 2 3 S (refusedWith 15 2)
+    -- with d=3: 0x5, of two that share 0 0
+    ∷ line 1 3 2 3 S (accepted (found 2 0 0x5 2))
     (event 0 1 0 0 ∷ event 1 1 1 1 ∷ [])
     []
     (0 ∷ 0 ∷ []) (0 ∷ 0 ∷ [])
-    -- S, N=4, m=2, d=5: refusal 15, two left, shared 0 0 0 1
-    ∷ line 1 4 2 5 S (refusedWith 15 2)
+    -- S, N=4, m=2, d=5: 0x5, of two that share 0 0 0 1
+    ∷ line 1 4 2 5 S (accepted (found 4 9 0x5 2))
     (event 0 1 0 0 ∷ event 0 2 3 1 ∷ event 0 3 4 3 ∷ event 1 1 1 1 ∷ [])
     (1 ∷ 2 ∷ 4 ∷ 8 ∷ 3 ∷ 6 ∷ 9 ∷ 12 ∷ 15 ∷ [])
     (0 ∷ 0 ∷ 4 ∷ 5 ∷ []) (0 ∷ 0 ∷ 0 ∷ 1 ∷ [])
+    -- with m=3: 0xB, of two that share 0 0 0 0; the other is 0xD, and 0x9 and 0xF are worse
+    ∷ line 1 4 3 5 S (accepted (found 4 9 0xB 2))
+    (event 0 1 0 0 ∷ event 0 2 3 1 ∷ event 0 3 4 3 ∷ event 1 1 1 1 ∷ [])
+    (1 ∷ 2 ∷ 4 ∷ 8 ∷ 3 ∷ 6 ∷ 9 ∷ 12 ∷ 15 ∷ [])
+    (0 ∷ 0 ∷ 4 ∷ 5 ∷ []) (0 ∷ 0 ∷ 0 ∷ 0 ∷ [])
     -- with d=6: 0x5 (the row that document 01 prints)
-    ∷ line 1 4 2 6 S (accepted (found 5 13 0x5))
+    ∷ line 1 4 2 6 S (accepted (found 5 13 0x5 1))
     (event 0 1 0 0 ∷ event 0 2 3 1 ∷ event 0 3 4 3 ∷ event 0 4 5 7 ∷ event 1 1 1 1 ∷ [])
     (1 ∷ 2 ∷ 4 ∷ 8 ∷ 3 ∷ 6 ∷ 9 ∷ 12 ∷ 15 ∷ 7 ∷ 11 ∷ 13 ∷ 14 ∷ [])
     (0 ∷ 0 ∷ 4 ∷ 5 ∷ 4 ∷ []) (0 ∷ 0 ∷ 0 ∷ 1 ∷ 0 ∷ [])
     -- S, N=4, d=7: 15 paths; words 5 and 10 weigh 6 and stand once each
-    ∷ line 1 4 2 7 S (accepted (found 5 15 0x5))
+    ∷ line 1 4 2 7 S (accepted (found 5 15 0x5 1))
     (event 0 1 0 0 ∷ event 0 2 3 1 ∷ event 0 3 4 3 ∷ event 0 4 5 7 ∷ event 1 1 1 1 ∷ [])
     (1 ∷ 2 ∷ 4 ∷ 8 ∷ 3 ∷ 6 ∷ 9 ∷ 12 ∷ 15 ∷ 7 ∷ 11 ∷ 13 ∷ 14 ∷ 5 ∷ 10 ∷ [])
     (0 ∷ 0 ∷ 4 ∷ 5 ∷ 4 ∷ 2 ∷ []) (0 ∷ 0 ∷ 0 ∷ 1 ∷ 0 ∷ 2 ∷ [])
     ∷ (weigh (code 1 1 4 S) 5, a-number 6)
     ∷ (weigh (code 1 1 4 S) 10, a-number 6)
     -- S, N=2, m=1, d=3: 0x3, undetected 0 1
-    ∷ line 1 2 1 3 S (accepted (found 2 1 0x3))
+    ∷ line 1 2 1 3 S (accepted (found 2 1 0x3 1))
     (event 0 1 0 0 ∷ event 1 1 1 1 ∷ [])
     (3 ∷ [])
     (0 ∷ 1 ∷ []) (0 ∷ 1 ∷ [])
@@ -158,22 +163,35 @@ rows =
     ∷ (question (order 1 2 4 2 6 (0x5 ∷ 0x3 ∷ [])), a-number 16)
     ∷ (question (order 1 3 70 6 18 (0xB ∷ 0xF ∷ [])), a-number 0)
     -- terminated, S, N=3, m=2, d=6: 4 events, 6 paths, 0x5; word 7 weighs 5, and 3 on a tail-biting link
-    ∷ lineOf (order 2 1 3 2 6 S) (accepted (found 4 6 0x5))
+    ∷ lineOf (order 2 1 3 2 6 S) (accepted (found 4 6 0x5 1))
     (event 0 1 0 0 ∷ event 0 2 3 1 ∷ event 0 3 4 3 ∷ event 0 4 5 7 ∷ [])
     (1 ∷ 2 ∷ 4 ∷ 3 ∷ 6 ∷ 7 ∷ [])
     (0 ∷ 0 ∷ 3 ∷ 2 ∷ 1 ∷ []) (0 ∷ 0 ∷ 0 ∷ 0 ∷ 0 ∷ [])
     ∷ (weigh (code 2 1 3 S) 7, a-number 5)
     ∷ (weigh (code 1 1 3 S) 7, a-number 3)
+    -- terminated, S, N=3, m=2, d=5: 0x5, of two that share 0 0 0 0
+    ∷ lineOf (order 2 1 3 2 5 S) (accepted (found 3 5 0x5 2))
+    (event 0 1 0 0 ∷ event 0 2 3 1 ∷ event 0 3 4 3 ∷ [])
+    (1 ∷ 2 ∷ 4 ∷ 3 ∷ 6 ∷ [])
+    (0 ∷ 0 ∷ 3 ∷ 2 ∷ []) (0 ∷ 0 ∷ 0 ∷ 0 ∷ [])
     -- version 3: refusal 2, before any question about the generators, and nothing lent is changed
     ∷ (searched (order 3 1 2 1 1 []) marked, answer-and-tables (refused 2, marked))
     -- S, N=4, quoted N'=3, m=2, d=6: 4 events, 7 paths, 0x5, and 5 events are left in the table
     ∷ (
       quoted (order 1 1 4 2 6 S) 3 (filledWith7 6 8 7),
       answer-and-tables (
-        accepted (found 4 7 0x5),
+        accepted (found 4 7 0x5 1),
         searchTables (entry 0 1 0 0 ∷ entry 0 2 3 1 ∷ entry 0 3 4 3 ∷ entry 0 4 5 7 ∷ entry 1 1 1 1 ∷ entry 0 0 0 0 ∷ [])
             (1 ∷ 0 ∷ 2 ∷ 0 ∷ 4 ∷ 0 ∷ 7 ∷ 0 ∷ 3 ∷ 0 ∷ 5 ∷ 0 ∷ 6 ∷ 0 ∷ 0 ∷ 0 ∷ [])
             (0 ∷ 0 ∷ 4 ∷ 3 ∷ 0 ∷ 0 ∷ 0 ∷ []) (0 ∷ 0 ∷ 0 ∷ 1 ∷ 0 ∷ 0 ∷ 0 ∷ []) (replicate workSize 0),
+      ),
+    )
+    -- with d=3: 0x5, of two that share 0 0, and the 2 events for N=4 are left
+    ∷ (
+      quoted (order 1 1 4 2 3 S) 3 (filledWith7 3 1 2),
+      answer-and-tables (
+        accepted (found 2 0 0x5 2),
+        searchTables (entry 0 1 0 0 ∷ entry 1 1 1 1 ∷ entry 0 0 0 0 ∷ []) (0 ∷ 0 ∷ []) (0 ∷ 0 ∷ []) (0 ∷ 0 ∷ []) (replicate workSize 0),
       ),
     )
     -- N'=5 is above N: refusal 5; N'=2 is not above m: refusal 6; a terminated link: refusal 2; nothing lent is changed
@@ -186,8 +204,8 @@ rows =
       answer-and-tables (refused 13, searchTables (replicate 4 noEvent) (replicate 16 0) (replicate 7 0) (replicate 7 0) (replicate workSize 0)),
     )
     -- d=1 leaves lists of no entries: S, N=4, m=1 has 1 event, no path and 0x3 alone; so has a terminated link, N=3
-    ∷ line 1 4 1 1 S (accepted (found 1 0 0x3)) (event 0 1 0 0 ∷ []) [] [] []
-    ∷ lineOf (order 2 1 3 1 1 S) (accepted (found 1 0 0x3)) (event 0 1 0 0 ∷ []) [] [] []
+    ∷ line 1 4 1 1 S (accepted (found 1 0 0x3 1)) (event 0 1 0 0 ∷ []) [] [] []
+    ∷ lineOf (order 2 1 3 1 1 S) (accepted (found 1 0 0x3 1)) (event 0 1 0 0 ∷ []) [] [] []
     -- d=3 wants two entries of each list of counts: refusal 10 with one, and nothing lent is changed
     ∷ (searched (order 1 1 3 2 3 S) marked, answer-and-tables (refused 10, marked))
     -- the parts of 13 paths, N=4, d=6: weight 3 stands first, weight 4 after it; weight 1 has a part of nothing, and weights 0 and 6 have none: 10

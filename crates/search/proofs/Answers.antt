@@ -1,19 +1,15 @@
 -- What the two calls answer and leave, at each of their ends: the listing is refused, or all is listed and the job is done over it.
 -- Assumes nothing.
 use Prim.Native.Nat.{ℕ, _-_, _*_, _≤_, _<_}
-use native.Mathlib.Decide.{ℕ-discrete}
 use native.Mathlib.Omega.{arith}
 use mathlib.Core.Path.{_≡_, refl, sym, ap, ap₂, _∙_}
-use mathlib.Core.Logic.{_≢_, inl, inr}
-use mathlib.Core.Bool.{Bool, cond}
+use mathlib.Core.Logic.{inl, inr}
 use mathlib.Core.List.{List, [], _++_}
-use lib.Dec.{eqb}
 use lib.ListN.{length, replicate, drop}
 use Rattle.lists.specs.Lists.{padded, cleared}
-use Rattle.lists.proofs.Choices.{eqb-passes, eqb-fails}
-use Rattle.lists.proofs.Tests.{true-of-T, false-of-T-not, lt-or-ge}
+use Rattle.lists.proofs.Tests.{lt-or-ge}
 use Rattle.order.specs.Order.{Order}
-use Rattle.order.specs.Answer.{Answer, accepted, refused, refusedWith}
+use Rattle.order.specs.Answer.{Answer, accepted, refused}
 use Rattle.events.specs.Events.{events}
 use Rattle.paths.specs.Paths.{wordsOfWeight, paths, plainCounts, pathTable, pathRoom}
 use Rattle.paths.proofs.FromOne.{none-of-weight-0}
@@ -24,16 +20,16 @@ use Rattle.listing.proofs.Answers.{too-many-events, too-many-paths, all-fit}
 use Rattle.undetected.specs.Undetected.{undetectedCounts}
 use Rattle.undetected.specs.Model.Steps.{Readable, dividedCounts, countedFrom}
 use Rattle.undetected.proofs.Counts.{readable, divided-counts, length-dividedCounts, counted-all, counted-cleared}
-use Rattle.choice.specs.declared.Outcome.{Outcome}
-use Rattle.choice.specs.Choice.{choice}
-use Rattle.choice.specs.Model.Steps.{laid, Chose}
-use Rattle.choice.proofs.Left.{chosen-counts, chosen-one, chosen-tie}
+use Rattle.choice.specs.Choice.{Choice, choice}
+use Rattle.choice.specs.Model.Steps.{laid}
+use Rattle.choice.proofs.Chosen.{alone-chosen}
+use Rattle.choice.proofs.Left.{chosen-counts, chosen-is-choice}
 use Rattle.search.specs.declared.Searched.{Searched}
 use Rattle.search.specs.declared.Searched.the-variants as S
 use Rattle.search.specs.declared.Job.{Job}
 use Rattle.search.specs.declared.Job.the-variants as J
 use Rattle.search.specs.Calls.{Found, found, searchedAs, SearchTables, searchTables, clearedSearch, filledSearch, chosen, searched}
-use Rattle.search.specs.Model.Steps.{refusalOf, foundOf, answerOf, listedOf, Finished, ToFinish, jobDone, ran, ToRun}
+use Rattle.search.specs.Model.Steps.{refusalOf, foundOf, listedOf, Finished, ToFinish, offered, jobDone, ran, ToRun}
 
 -- ---- what the listing answered
 
@@ -59,11 +55,11 @@ refusal-is : (c : Listed) (k : ℕ) → listedAs c ≡ refused k → refusalOf c
 refusal-is (L.Paths e k′) k h = cc
 refusal-is (L.Refused k′) k h = cc
 
-found-told : (c : Listed) (p e k : ℕ) → listedAs c ≡ accepted (listing e k) → searchedAs (foundOf c p) ≡ accepted (found e k p)
-found-told (L.Paths e′ k′) p e k h =
+found-told : (c : Listed) (p s e k : ℕ) → listedAs c ≡ accepted (listing e k) → searchedAs (foundOf c p s) ≡ accepted (found e k p s)
+found-told (L.Paths e′ k′) p s e k h =
     let same : _≡_ {A = Listing} (listing e′ k′) (listing e k) = cc in
-    ap (λ (x : Listing). accepted (found (x .events) (x .paths) p)) same
-found-told (L.Refused k′) p e k h = absurd (let z : _≡_ {A = ℕ} 0 1 = cc in omega arith)
+    ap (λ (x : Listing). accepted (found (x .events) (x .paths) p s)) same
+found-told (L.Refused k′) p s e k h = absurd (let z : _≡_ {A = ℕ} 0 1 = cc in omega arith)
 
 -- everything was listed
 pub record Whole (l o : Order) (lent : PathTables) (c : Listed) (left : PathTables) : Type 0 where
@@ -204,38 +200,20 @@ module _ (l o : Order) (t : SearchTables) (c : Listed) (left : PathTables) where
       unfolding filledSearch filledPaths
       tables-left counts e = ap₂ beside (all .tables) e
 
-      -- question 15: one is left, or several
-      module _ (r : Outcome) (chose : Chose (o .m) (o .d - 1) table plain before after r) where
-        chosen-left : done ≡ filledSearch l o (undetectedCounts o (r .polynomial)) t
-        chosen-left = tables-left _ (chosen-counts o divided-left chose ∙ laid-left (r .polynomial))
-
-        -- the answer, by whether one is left
-        abbrev by : Bool → Answer Found
-        by b = searchedAs (cond b (foundOf c (r .polynomial)) (S.Tied (r .left)))
-
-        one-told : r .left ≡ 1 → searchedAs (answerOf c r) ≡ accepted (found (length (events o)) (length (paths o)) (r .polynomial))
-        unfolding answerOf
-        one-told e =
-            ap by (true-of-T (eqb (r .left) 1) (eqb-passes (r .left) 1 e)) ∙ found-told c (r .polynomial) _ _ (all .answer)
-
-        several-told : r .left ≢ 1 → searchedAs (answerOf c r) ≡ refusedWith 15 (r .left)
-        unfolding answerOf
-        several-told n = ap by (false-of-T-not (eqb (r .left) 1) (eqb-fails (r .left) 1 n))
-
-        is-chosen : _≡_ {A = Told Found} (searchedAs (answerOf c r), done) (chosen l o t (choice o))
-        unfolding chosen
-        is-chosen = elim (ℕ-discrete (r .left) 1) [
-          | yes e ↦ paired (one-told e) chosen-left ∙ ap (chosen l o t) (sym (chosen-one o divided-left chose e))
-          | no n ↦ paired (several-told n) chosen-left ∙ ap (chosen l o t) (sym (chosen-tie o divided-left chose n))
-        ]
+      -- p is told with a number, and its counts are left
+      told-chosen : (s : Searched) (p shared : ℕ) → s ≡ foundOf c p shared → after ≡ padded nu 0 (undetectedCounts o p)
+          → _≡_ {A = Told Found} (searchedAs s, done) (chosen l o t (record { polynomial = p; shared = shared; undetected = undetectedCounts o p }))
+      unfolding chosen
+      told-chosen s p shared e counts = paired (ap searchedAs e ∙ found-told c p shared _ _ (all .answer)) (tables-left _ counts)
 
       -- the job is done
       is-done : (s : Searched) (j : Job) → Finished j (o .m) (o .d - 1) c table plain before after s
           → _≡_ {A = Told Found} (searchedAs s, done) (jobDone j l o t)
-      unfolding Finished jobDone
-      is-done s J.Choose (x, chose, e) = ap (λ (y : Searched). (searchedAs y, done)) e ∙ is-chosen x chose
-      is-done s (J.Count p) (counts, e) =
-          paired (ap searchedAs e ∙ found-told c p _ _ (all .answer)) (tables-left _ (counts ∙ counted-left p))
+      unfolding Finished jobDone offered choice
+      is-done s J.Choose (x, chose, e) =
+          told-chosen s (x .polynomial) (x .shared) e (chosen-counts o divided-left chose ∙ laid-left (x .polynomial))
+          ∙ ap (chosen l o t) (chosen-is-choice o divided-left chose)
+      is-done s (J.Count p) (counts, e) = told-chosen s p 1 e (counts ∙ counted-left p) ∙ ap (chosen l o t) (sym (alone-chosen (undetectedCounts o) p))
 
       pub ran-done : (s : Searched) → Finished job (o .m) (o .d - 1) c table plain before after s
           → _≡_ {A = Told Found} (searchedAs s, done) (ran job l o t)
@@ -244,7 +222,7 @@ module _ (l o : Order) (t : SearchTables) (c : Listed) (left : PathTables) where
 
 -- the choice is the search
 pub ran-choose : (l o : Order) (t : SearchTables) (job : Job) → job ≡ J.Choose → ran job l o t ≡ searched l o t
-unfolding ran jobDone searched
+unfolding ran jobDone offered searched choice
 ran-choose l o t job e = ap (λ (j : Job). ran j l o t) e
 
 -- ---- the counting: its answer is the listing's
@@ -252,12 +230,10 @@ ran-choose l o t job e = ap (λ (j : Job). ran j l o t) e
 abbrev forget : Answer Found → Answer Listing
 forget (accepted f) = accepted (listing (f .events) (f .paths))
 forget (refused k) = refused k
-forget (refusedWith k added) = refused k
 
 forget-told : (r : Searched) → listedAs (listedOf r) ≡ forget (searchedAs r)
-forget-told (S.Found e k p) = refl
+forget-told (S.Found e k p s) = refl
 forget-told (S.Refused k) = refl
-forget-told (S.Tied left) = refl
 
 abbrev forgetting : Told Found → Told Listing
 forgetting (a, x) = (forget a, x)
@@ -279,7 +255,9 @@ pub counted-as : (o : Order) (p : ℕ) (t left : SearchTables) (r : Searched)
     → _≡_ {A = Told Listing} (listedAs (listedOf r), left)
     (unlessTooMany o o (length (t .events)) (length (t .paths)) (clearedSearch t)
     (accepted (listing (length (events o)) (length (paths o))), filledSearch o o (undetectedCounts o p) t))
-unfolding ran jobDone
+unfolding ran jobDone offered chosen
 counted-as o p t left r e =
     ap (λ (a : Answer Listing). (a, left)) (forget-told r) ∙ ap forgetting e
     ∙ forget-13-14 o (length (t .events)) (length (t .paths)) (clearedSearch t) _
+    ∙ ap (λ (c : Choice). unlessTooMany o o (length (t .events)) (length (t .paths)) (clearedSearch t) (forgetting (chosen o o t c)))
+    (alone-chosen (undetectedCounts o) p)

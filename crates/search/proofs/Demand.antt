@@ -1,38 +1,38 @@
--- What the search promises, for whatever order comes and whatever tables are lent (`demand-3`; crates/search/specs/Promise.antt says it). If it names p,
--- then p has the order's degree and constant term 1, the undetected list is p's counts below the threshold, each of them the number of the words of its
--- weight that p divides, with none of weight 0, and every other such polynomial has counts that differ from p's, and more at the lowest weight where they
--- differ. Refusal 15 comes exactly when no earlier question refuses and two or more share the best counts. `search-promises` says it of the function's
--- own answer.
+-- What the search promises, for whatever order comes and whatever tables are lent (`demand-3`; crates/search/specs/Promise.antt says it). If it names p with a
+-- number, then p has the order's degree and constant term 1, whoever has other counts has more at the lowest weight where they differ, nobody with the same
+-- counts has a smaller number, and exactly so many have them; the undetected list is p's counts below the threshold; and of every candidate each count is the
+-- number of the words of its weight that it divides, with none of weight 0. It accepts exactly when no question refuses. `search-promises` says it of the function's own answer.
 -- Assumes nothing.
-use Prim.Native.Nat.{ℕ, zero, suc, _≤_}
+use Prim.Native.Nat.{ℕ, zero, suc}
 use native.Mathlib.Omega.{arith}
 use mathlib.Core.Path.{_≡_, refl, sym, ap, _∙_, subst}
-use mathlib.Core.Logic.{_⊎_, inl, inr}
-use mathlib.Core.List.{List}
+use mathlib.Core.Logic.{_↔_, _⊎_, inl, inr, ⊎-elim}
 use lib.ListN.{length}
 use Rattle.lists.specs.Lists.{padded}
 use Rattle.lists.proofs.Tests.{lt-or-ge}
 use Rattle.order.specs.Questions.{firstNo}
 use Rattle.order.specs.Order.{Order}
-use Rattle.order.specs.Answer.{Answer, accepted, refused, refusedWith}
+use Rattle.order.specs.Answer.{Answer, accepted, refused}
 use Rattle.order.specs.Answers.{orderIn}
 use Rattle.order.specs.Model.Accepted.{AcceptedCode, AcceptedWhole, AcceptedAs}
 use Rattle.order.specs.declared.questions.Takes.the-variants as T
 use Rattle.order.specs.declared.record.OrderRecord.{OrderRecord}
-use Rattle.order.proofs.FirstNo.{none-in-parts, leaves-refused, leaves-answered, refused-not-accepted, refused-not-with}
+use Rattle.order.proofs.FirstNo.{none-in-parts, leaves-refused, leaves-answered, refused-not-accepted}
 use Rattle.order.proofs.Asked.{numbered-order, accepted-order}
 use Rattle.events.specs.Events.{events}
 use Rattle.paths.specs.Paths.{paths, pathRoom}
 use Rattle.listing.proofs.Answers.{too-many-events, too-many-paths, all-fit}
-use Rattle.undetected.specs.Undetected.{CountsUndetected}
+use Rattle.undetected.specs.Undetected.{undetectedCounts, CountsUndetected}
 use Rattle.undetected.proofs.Undetected.{undetected-means-divided}
-use Rattle.choice.specs.Choice.{Choice, one, tie, choice}
-use Rattle.choice.specs.Best.{SharedBest, OnlyBest}
+use Rattle.choice.specs.Choice.{choice}
 use Rattle.choice.proofs.ByWeight.{undetected-of-weight, none-undetected}
-use Rattle.choice.proofs.Chosen.{choice-one, choice-tie⇔shared-best}
+use Rattle.choice.proofs.Chosen.{choice-first-best, choice-counts}
 use Rattle.search.specs.declared.Searched.{Searched}
 use Rattle.search.specs.Calls.{Found, found, searchedAs, SearchTables, clearedSearch, filledSearch, searchQuestions, chosen, searched, searchCall}
-use Rattle.search.specs.Promise.{NoneRefuses, NamesBest, LeavesShared, Promise}
+use Rattle.search.specs.Promise.{NoneRefuses, NamesBest, Promise}
+
+accepted-same : {f g : Found} → _≡_ {A = Answer Found} (accepted f) (accepted g) → f ≡ g
+accepted-same e = cc
 
 module _ (o : Order) (t : SearchTables) where
   abbrev Outcome : Type 0
@@ -56,7 +56,7 @@ module _ (o : Order) (t : SearchTables) where
       sym (leaves-answered t fitting why (sym (n .questions)))
       ∙ sym (all-fit o o (length (t .events)) (length (t .paths)) (clearedSearch t) all (n .events-fit) (n .paths-fit))
 
-  -- a refusal before question 15
+  -- some question says no
   abbrev Refuses : Type 0
   Refuses = (r : ℕ) × (searchCall o t .0 ≡ refused r)
 
@@ -85,64 +85,50 @@ module _ (o : Order) (t : SearchTables) where
       by zero e = then-fits e
       by (suc k) e = inr (refuses-early (λ z. absurd (omega (arith, e, z))))
 
-  -- ---- question 15
+  -- ---- accepted
 
   whole : NoneRefuses o t → AcceptedWhole o
   unfolding searchQuestions AcceptedAs
   whole n = accepted-order T.Everything o (none-in-parts _ _ (numbered-order T.Everything o) (n .questions) .0)
 
-  positive : NoneRefuses o t → 1 ≤ o .m
-  positive n = whole n .degree .some-degree
-
   code : NoneRefuses o t → AcceptedCode o
   code n = whole n .order .code
 
-  chosen-found : (c : Choice) (f : Found) → chosen o o t c .0 ≡ accepted f → (counts : List ℕ) × (c ≡ one (f .polynomial) counts)
-  unfolding chosen
-  chosen-found (one q counts) f same =
-      let is : _≡_ {A = Found} (found (length (events o)) (length (paths o)) q) f = cc in
-      (counts, ap (λ (x : Found). one (x .polynomial) counts) is)
-  chosen-found (tie left counts) f same = absurd (let z : _≡_ {A = ℕ} 0 1 = cc in omega arith)
+  -- what is told where no question refuses
+  abbrev told : Found
+  told = found (length (events o)) (length (paths o)) (choice o .polynomial) (choice o .shared)
 
-  chosen-tied : (c : Choice) (left : ℕ) → chosen o o t c .0 ≡ refusedWith 15 left → (counts : List ℕ) × (c ≡ tie left counts)
+  is-accepted : NoneRefuses o t → searchCall o t .0 ≡ accepted told
   unfolding chosen
-  chosen-tied (one q counts) left same = absurd (let z : _≡_ {A = ℕ} 0 1 = cc in omega arith)
-  chosen-tied (tie left′ counts) left same = (counts, cc)
+  is-accepted n = ap (λ (x : Outcome). x .0) (accepts n)
 
-  is-named : (f : Found) → searchCall o t .0 ≡ accepted f → NoneRefuses o t ⊎ Refuses → NamesBest o t (searchCall o t .1) (f .polynomial)
+  accepts-told : (f : Found) → searchCall o t .0 ≡ accepted f → NoneRefuses o t
+  accepts-told f same = ⊎-elim (λ n. n) (λ r. absurd (refused-not-accepted (r .0) f (sym (r .1) ∙ same))) either
+
+  accepts-exactly : ((f : Found) × (searchCall o t .0 ≡ accepted f)) ↔ NoneRefuses o t
+  accepts-exactly = (λ h. accepts-told (h .0) (h .1), λ n. (told, is-accepted n))
+
+  counts-left : NoneRefuses o t → searchCall o t .1 .undetected ≡ padded (length (t .undetected)) 0 (undetectedCounts o (choice o .polynomial))
   unfolding chosen filledSearch
-  is-named f same (inr r) = absurd (refused-not-accepted (r .0) f (sym (r .1) ∙ same))
-  is-named f same (inl n) =
-      let p : ℕ = f .polynomial in
-      let c = chosen-found (choice o) f (ap (λ (x : Outcome). x .0) (sym (accepts n)) ∙ same) in
-      let best : OnlyBest o p (c .0) = choice-one o (positive n) p (c .0) (c .1) in
-      let left : searchCall o t .1 ≡ filledSearch o o (c .0) t = ap (λ (x : Outcome). x .1) (accepts n) ∙ ap (λ (x : Choice). chosen o o t x .1) (c .1) in
+  counts-left n = ap (λ (x : Outcome). x .1 .undetected) (accepts n) ∙ ap (padded (length (t .undetected)) 0) (choice-counts o)
+
+  names-choice : NoneRefuses o t → NamesBest o t (searchCall o t .1) (choice o .polynomial) (choice o .shared)
+  names-choice n =
       record {
-        candidate = best .candidate;
-        undetected = ap (λ (x : SearchTables). x .undetected) left ∙ ap (padded (length (t .undetected)) 0) (best .counted);
-        divided = λ w some h. subst (CountsUndetected o p w) (sym (undetected-of-weight o p w some h)) (undetected-means-divided o p w (best .candidate .0));
-        none-of-weight-0 = subst (CountsUndetected o p 0) (none-undetected o (code n) p) (undetected-means-divided o p 0 (best .candidate .0));
-        others-worse = best .others-worse;
+        best = choice-first-best o (whole n .degree .some-degree);
+        undetected = counts-left n;
+        divided = λ q c w some h. subst (CountsUndetected o q w) (sym (undetected-of-weight o q w some h)) (undetected-means-divided o q w (c .0));
+        none-of-weight-0 = λ q c. subst (CountsUndetected o q 0) (none-undetected o (code n) q) (undetected-means-divided o q 0 (c .0));
       }
 
-  is-tied : (left : ℕ) → searchCall o t .0 ≡ refusedWith 15 left → NoneRefuses o t ⊎ Refuses → NoneRefuses o t × LeavesShared o t (searchCall o t .1) left
-  unfolding chosen
-  is-tied left same (inr r) = absurd (refused-not-with (r .0) 15 left (sym (r .1) ∙ same))
-  is-tied left same (inl n) =
-      let c = chosen-tied (choice o) left (ap (λ (x : Outcome). x .0) (sym (accepts n)) ∙ same) in
-      (n, record { counts = c .0; shared = choice-tie⇔shared-best o (positive n) left (c .0) .0 (c .1); tables = ap (λ (x : Outcome). x .1) (accepts n) ∙ ap (λ (x : Choice). chosen o o t x .1) (c .1) })
-
-  tied-where-shared : (left : ℕ) → NoneRefuses o t → (counts : List ℕ) × SharedBest o left counts → searchCall o t .0 ≡ refusedWith 15 left
-  unfolding chosen
-  tied-where-shared left n s =
-      ap (λ (x : Outcome). x .0) (accepts n) ∙ ap (λ (x : Choice). chosen o o t x .0) (choice-tie⇔shared-best o (positive n) left (s .0) .1 (s .1))
+  names-best : (f : Found) → searchCall o t .0 ≡ accepted f → NamesBest o t (searchCall o t .1) (f .polynomial) (f .shared)
+  names-best f same =
+      let n = accepts-told f same in
+      let is : told ≡ f = accepted-same (sym (is-accepted n) ∙ same) in
+      subst (λ (x : Found). NamesBest o t (searchCall o t .1) (x .polynomial) (x .shared)) is (names-choice n)
 
 pub demand-3 : (o : Order) (lent : SearchTables) → Promise o lent (searchCall o lent .0) (searchCall o lent .1)
-demand-3 o t = record {
-  names-best = λ f same. is-named o t f same (either o t);
-  refuses-15-exactly = λ left. (λ same. let h = is-tied o t left same (either o t) in (h .0, (h .1 .counts, h .1 .shared)), λ h. tied-where-shared o t left (h .0) (h .1));
-  leaves-shared = λ left same. is-tied o t left same (either o t) .1;
-}
+demand-3 o t = record { names-best = names-best o t; accepts-exactly = accepts-exactly o t }
 
 -- of what `search` answers and leaves: its contract is the premise
 pub search-promises : (order : OrderRecord) (lent left : SearchTables) (r : Searched) → (searchedAs r, left) ≡ searchCall (orderIn order) lent → Promise (orderIn order) lent (searchedAs r) left

@@ -1,6 +1,6 @@
 -- What the search for the best check polynomial, and the counting for one polynomial, answer and leave, for every order and whatever tables are lent.
--- Their questions are 2 to 9, 16 and 10, for one polynomial also 11, then 13 and 14, for the search also 15. The counts are those of
--- `undetected` and the choice that of `choice`: from division and the weight of words alone.
+-- Their questions are 2 to 9, 16 and 10, for one polynomial also 11, then 13 and 14. The counts are those of `undetected` and the choice that of `choice`:
+-- from division and the weight of words alone.
 -- Assumes nothing.
 use Prim.Native.Nat.{ℕ, _-_}
 use mathlib.Core.List.{List, [], _∷_, _++_}
@@ -8,31 +8,30 @@ use lib.ListN.{length}
 use Rattle.lists.specs.Lists.{padded, cleared}
 use Rattle.order.specs.Questions.{Question, firstNo, room, workSize, checkPolynomial}
 use Rattle.order.specs.Order.{Order, orderQuestions}
-use Rattle.order.specs.Answer.{Answer, accepted, refused, refusedWith, unlessRefused}
+use Rattle.order.specs.Answer.{Answer, accepted, refused, unlessRefused}
 use Rattle.order.specs.declared.questions.Takes.the-variants as T
 use Rattle.events.specs.declared.Event.{Event}
 use Rattle.events.specs.Events.{events, noEvent, eventTable}
 use Rattle.paths.specs.Paths.{paths, plainCounts, pathTable}
 use Rattle.listing.specs.Calls.{Listing, listing, unlessTooMany}
 use Rattle.undetected.specs.Undetected.{undetectedCounts}
-use Rattle.choice.specs.Choice.{Choice, one, tie, choice}
+use Rattle.choice.specs.Choice.{Choice, choice}
 use Rattle.search.specs.declared.Searched.{Searched}
 use Rattle.search.specs.declared.Searched.the-variants as S
 
--- what the search answers: how many events and paths there are, and the best polynomial
+-- what the search answers: how many events and paths there are, the best polynomial, and how many share its counts
 pub record Found : Type 0 where
   pub events : ℕ
   pub paths : ℕ
   pub polynomial : ℕ
+  pub shared : ℕ
 
-abbrev pub found : ℕ → ℕ → ℕ → Found
-found e k p = record { events = e; paths = k; polynomial = p }
+abbrev pub found : (events paths polynomial shared : ℕ) → Found
+found e k p s = record { events = e; paths = k; polynomial = p; shared = s }
 
--- several that share the best counts are refusal 15, with how many are left
 abbrev pub searchedAs : Searched → Answer Found
-searchedAs (S.Found e k p) = accepted (found e k p)
+searchedAs (S.Found e k p s) = accepted (found e k p s)
 searchedAs (S.Refused k) = refused k
-searchedAs (S.Tied left) = refusedWith 15 left
 
 -- what a caller lends
 pub record SearchTables : Type 0 where
@@ -57,17 +56,17 @@ countQuestions o p plain undetected size = searchQuestions o plain undetected si
 unfoldable pub clearedSearch : SearchTables → SearchTables
 clearedSearch t = searchTables (cleared noEvent (t .events)) (cleared 0 (t .paths)) (cleared 0 (t .plain)) (cleared 0 (t .undetected)) (cleared 0 (t .work))
 
--- an accepted call, and refusal 15: the lists with zeros after them, and the work area zero. The events may be those of a longer order than the one that
+-- an accepted call: the lists with zeros after them, and the work area zero. The events may be those of a longer order than the one that
 -- the row is for (`unlessTooMany`).
 unfoldable pub filledSearch : (longer o : Order) → List ℕ → SearchTables → SearchTables
 filledSearch longer o undetected t =
     searchTables (eventTable (length (t .events)) longer) (pathTable (length (t .paths)) o) (padded (length (t .plain)) 0 (plainCounts o))
     (padded (length (t .undetected)) 0 undetected) (cleared 0 (t .work))
 
--- question 15
+-- accepted, by who is chosen
 unfoldable pub chosen : (longer o : Order) → SearchTables → Choice → Answer Found × SearchTables
-chosen longer o t (one p undetected) = (accepted (found (length (events o)) (length (paths o)) p), filledSearch longer o undetected t)
-chosen longer o t (tie left undetected) = (refusedWith 15 left, filledSearch longer o undetected t)
+chosen longer o t c =
+    (accepted (found (length (events o)) (length (paths o)) (c .polynomial) (c .shared)), filledSearch longer o (c .undetected) t)
 
 -- the row of an accepted order, its events collected for the longer one
 unfoldable pub searched : (longer o : Order) → SearchTables → Answer Found × SearchTables

@@ -18,7 +18,8 @@ use Rattle.order.proofs.FirstNo.{firstNo-none, firstNo-yes, firstNo-no, first-y
 use Rattle.order.proofs.Asked.{room-told, length-orderIn}
 use Rattle.order.specs.declared.record.OrderRecord.{OrderRecord}
 use Rattle.text.specs.Calls.{textSize, laidOut, rowQuestions, refusalCall}
-use Rattle.text.specs.Model.Steps.{Put, RowAccepted}
+use Rattle.lines.specs.Model.Steps.{Put}
+use Rattle.text.specs.Model.Steps.{RowAccepted}
 
 pub written-as : (k : ℕ) (text buffer : List ℕ) {m : ℕ} {cleared after : List ℕ} {end : ℕ} → 0 ≡ k → m ≤ length buffer → cleared ≡ replicate (length buffer) 0
     → Put m cleared 0 text after end → _≡_ {A = Answer ℕ × List ℕ} (accepted end, after) (unlessRefused k buffer (laidOut text buffer))
@@ -30,9 +31,9 @@ written-as k text buffer e h c p =
 
 -- ---- a refusal's questions
 
-pub refusal-no-room : (number left : ℕ) (buffer : List ℕ) → length buffer < 4096 → _≡_ {A = Answer ℕ × List ℕ} (refused 10, buffer) (refusalCall number left buffer)
+pub refusal-no-room : (number : ℕ) (buffer : List ℕ) → length buffer < 4096 → _≡_ {A = Answer ℕ × List ℕ} (refused 10, buffer) (refusalCall number buffer)
 unfolding refusalCall textSize
-refusal-no-room number left buffer h =
+refusal-no-room number buffer h =
     leaves-refused buffer _ 10 _ (sym (firstNo-no _ [] (lt-leb 4096 (length buffer) h))) (λ e. absurd (omega arith))
 
 pub refusal-room : (buffer : List ℕ) → 4096 ≤ length buffer → 0 ≡ firstNo ((10, leb textSize (length buffer)) ∷ [])

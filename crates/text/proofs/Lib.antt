@@ -1,6 +1,2 @@
-pub mod Puts
-pub mod Numerals
-pub mod Pieces
-pub mod Sizes
 pub mod Calls
 pub mod Samples

@@ -29,10 +29,10 @@ laidOut text buffer = (accepted (length text), padded (length buffer) 0 text)
 unfoldable pub rowQuestions : (version n d plain undetected size : ℕ) → List Question
 rowQuestions version n d plain undetected size = linkKind version ∷ generatorCount n ∷ threshold d ∷ room (d - 1) plain ∷ room (d - 1) undetected ∷ room textSize size ∷ []
 
-unfoldable pub rowCall : Order → (events paths polynomial : ℕ) → (plain undetected : List ℕ) → List ℕ → Answer ℕ × List ℕ
-rowCall o events paths polynomial plain undetected buffer =
+unfoldable pub rowCall : Order → (events paths polynomial shared : ℕ) → (plain undetected : List ℕ) → List ℕ → Answer ℕ × List ℕ
+rowCall o events paths polynomial shared plain undetected buffer =
     unlessRefused (firstNo (rowQuestions (o .version) (length (o .generators)) (o .d) (length plain) (length undetected) (length buffer))) buffer
-    (laidOut (rowText o events paths polynomial plain undetected) buffer)
+    (laidOut (rowText o events paths polynomial shared plain undetected) buffer)
 
-unfoldable pub refusalCall : (number left : ℕ) → List ℕ → Answer ℕ × List ℕ
-refusalCall number left buffer = unlessRefused (firstNo (room textSize (length buffer) ∷ [])) buffer (laidOut (refusalText number left) buffer)
+unfoldable pub refusalCall : (number : ℕ) → List ℕ → Answer ℕ × List ℕ
+refusalCall number buffer = unlessRefused (firstNo (room textSize (length buffer) ∷ [])) buffer (laidOut (refusalText number) buffer)

@@ -6,7 +6,8 @@ ghost use Rattle.order.specs.Questions.{firstNo};
 ghost use Rattle.text.specs.Text.{rowText, refusalText};
 ghost use Rattle.text.specs.Calls.{writtenAs, rowQuestions, rowCall, refusalCall};
 ghost use Rattle.order.specs.Answers.{orderIn};
-ghost use Rattle.text.specs.Model.Steps.{Put, RowAccepted};
+ghost use Rattle.lines.specs.Model.Steps.{Put};
+ghost use Rattle.text.specs.Model.Steps.{RowAccepted};
 use lines::put_counts;
 use lines::put_line;
 use lines::put_order;
@@ -15,9 +16,6 @@ use lists::clear_bytes;
 use order::questions::counted_weights;
 use order::questions::from_to;
 use order::record::OrderRecord;
-
-mod lines;
-mod numbers;
 
 // How many bytes the text has, or the number of the question that says no.
 pub enum Written {
@@ -57,27 +55,25 @@ fn put_row(
     events: u64,
     paths: u64,
     polynomial: u64,
+    shared: u64,
     plain: &[u64],
     undetected: &[u64],
 ) -> usize
     requires { ⌜ RowAccepted (o .n) (o .d) (length (now plain)) (length (now undetected)) (length (now buffer)) ⌝ }
-    ensures { λ r. ⌜ Put 4096 (now (buffer .entry)) 0 (rowText (orderIn o) events paths polynomial (now (plain .entry)) (now (undetected .entry))) (now (buffer .exit)) r ⌝ }
+    ensures { λ r. ⌜ Put 4096 (now (buffer .entry)) 0 (rowText (orderIn o) events paths polynomial shared (now (plain .entry)) (now (undetected .entry))) (now (buffer .exit)) r ⌝ }
 {
     let to_events = put_order(buffer, 0, o);
     let to_paths = put_line(buffer, to_events, b"EVENTS", &[events]);
     let to_counts = put_line(buffer, to_paths, b"PATHS", &[paths]);
     let entries = counted_weights(o.d) as usize;
     let to_polynomial = put_counts(buffer, to_counts, entries, plain, undetected);
-    put_polynomial(buffer, to_polynomial, polynomial)
+    put_polynomial(buffer, to_polynomial, polynomial, shared)
 }
 
-fn put_refusal(buffer: &mut [u8], number: u64, left: u64) -> usize
+fn put_refusal(buffer: &mut [u8], number: u64) -> usize
     requires { ⌜ 4096 ≤ length (now buffer) ⌝ }
-    ensures { λ r. ⌜ Put 4096 (now (buffer .entry)) 0 (refusalText number left) (now (buffer .exit)) r ⌝ }
+    ensures { λ r. ⌜ Put 4096 (now (buffer .entry)) 0 (refusalText number) (now (buffer .exit)) r ⌝ }
 {
-    if number == 15 {
-        return put_line(buffer, 0, b"NO", &[number, left]);
-    }
     put_line(buffer, 0, b"NO", &[number])
 }
 
@@ -87,29 +83,39 @@ pub fn write_row(
     events: u64,
     paths: u64,
     polynomial: u64,
+    shared: u64,
     plain: &[u64],
     undetected: &[u64],
     buffer: &mut [u8],
 ) -> Written
-    ensures { λ r. ⌜ (writtenAs r, now (buffer .exit)) ≡ rowCall (orderIn o) events paths polynomial (now (plain .entry)) (now (undetected .entry)) (now (buffer .entry)) ⌝ }
+    ensures { λ r. ⌜ (writtenAs r, now (buffer .exit)) ≡ rowCall (orderIn o) events paths polynomial shared (now (plain .entry)) (now (undetected .entry)) (now (buffer .entry)) ⌝ }
 {
     let refusal = ask_row(o, plain.len(), undetected.len(), buffer.len());
     if refusal != 0 {
         return Written::Refused(refusal);
     }
     clear_bytes(buffer);
-    let end = put_row(buffer, o, events, paths, polynomial, plain, undetected);
+    let end = put_row(
+        buffer,
+        o,
+        events,
+        paths,
+        polynomial,
+        shared,
+        plain,
+        undetected,
+    );
     Written::Bytes(end as u64)
 }
 
 // A refusal, and zeros after it.
-pub fn write_refusal(number: u64, left: u64, buffer: &mut [u8]) -> Written
-    ensures { λ r. ⌜ (writtenAs r, now (buffer .exit)) ≡ refusalCall number left (now (buffer .entry)) ⌝ }
+pub fn write_refusal(number: u64, buffer: &mut [u8]) -> Written
+    ensures { λ r. ⌜ (writtenAs r, now (buffer .exit)) ≡ refusalCall number (now (buffer .entry)) ⌝ }
 {
     if buffer.len() < 4096 {
         return Written::Refused(10);
     }
     clear_bytes(buffer);
-    let end = put_refusal(buffer, number, left);
+    let end = put_refusal(buffer, number);
     Written::Bytes(end as u64)
 }

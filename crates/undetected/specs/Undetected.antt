@@ -6,12 +6,10 @@
 use Prim.Native.Nat.{ℕ, _^_, _≤_, _<_}
 use mathlib.Core.Path.{_≡_}
 use mathlib.Core.Bool.{Bool, _&&_}
-use mathlib.Core.Logic.{_↔_}
-use mathlib.Core.List.{List, map, List·Memᴰ}
+use mathlib.Core.List.{List, map}
 use lib.Dec.{eqb}
-use lib.ListN.{length}
 use Rattle.lists.specs.Lists.{count}
-use Rattle.lists.specs.Sorted.{Sorted}
+use Rattle.lists.specs.Sorted.{HowMany}
 use Rattle.poly.specs.Poly.{remainder, Divides}
 use Rattle.code.specs.Weight.{weight}
 use Rattle.order.specs.Order.{Order}
@@ -38,9 +36,6 @@ pub record IsUndetected (o : Order) (p w u : ℕ) : Type 0 where
   pub weighs : weight o u ≡ w
   pub divided : Divides p u
 
--- k is how many of these words there are: a list of k words, none twice, has just these as members
-pub record CountsUndetected (o : Order) (p w k : ℕ) : Type 0 where
-  pub listed : List ℕ
-  pub each-once : Sorted _<_ listed
-  pub just-these : (u : ℕ) → List·Memᴰ u listed ↔ IsUndetected o p w u
-  pub how-many : length listed ≡ k
+-- k is how many of these words there are
+abbrev pub CountsUndetected : Order → (p w k : ℕ) → Type 0
+CountsUndetected o p w k = HowMany (IsUndetected o p w) k

@@ -70,7 +70,7 @@ pub struct Row {
     pub events: u64,
     pub paths: u64,
     pub polynomial: u64,
-    pub left: u64,
+    pub shared: u64,
 }
 
 /// `struct dohvrin_part`.
@@ -200,6 +200,7 @@ pub fn row_text(
             found.events as u64,
             found.paths as u64,
             found.polynomial,
+            found.shared,
             plain.as_ptr(),
             plain.len(),
             undetected.as_ptr(),
@@ -210,8 +211,8 @@ pub fn row_text(
     }
 }
 
-pub fn refusal_text(number: u64, left: u64, text: &mut [u8]) -> Answer {
-    unsafe { dohvrin_refusal_text(number, left, text.as_mut_ptr(), text.len()) }
+pub fn refusal_text(number: u64, text: &mut [u8]) -> Answer {
+    unsafe { dohvrin_refusal_text(number, text.as_mut_ptr(), text.len()) }
 }
 
 pub fn read_order(bytes: &[u8]) -> OrderAnswer {
@@ -295,6 +296,7 @@ extern "C" {
         events: u64,
         paths: u64,
         polynomial: u64,
+        shared: u64,
         plain: *const u64,
         plain_entries: usize,
         undetected: *const u64,
@@ -302,6 +304,6 @@ extern "C" {
         text: *mut u8,
         size: usize,
     ) -> Answer;
-    fn dohvrin_refusal_text(number: u64, left: u64, text: *mut u8, size: usize) -> Answer;
+    fn dohvrin_refusal_text(number: u64, text: *mut u8, size: usize) -> Answer;
     fn dohvrin_read_order(bytes: *const u8, size: usize) -> OrderAnswer;
 }

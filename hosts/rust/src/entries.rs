@@ -221,6 +221,6 @@ mod tests {
         assert_eq!(doubled(8, 8, Refusal::Paths), Some(entries(8, 13)));
         assert_eq!(doubled(8, 13, Refusal::Paths), None);
         assert_eq!(doubled(9, 20, Refusal::Paths), None);
-        assert_eq!(doubled(1, 1, Refusal::Tie { left: 2 }), None);
+        assert_eq!(doubled(1, 1, Refusal::Polynomial), None);
     }
 }

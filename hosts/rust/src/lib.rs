@@ -69,10 +69,12 @@
 //! ```
 //!
 //! The search takes the same tables and one more list of counts, those of the
-//! words that pass the check unseen, and `row_text` writes what it found:
+//! words that pass the check unseen, and `row_text` writes what it found. Of
+//! several polynomials with the best counts it finds the smallest number, and
+//! `shared` says how many they are:
 //!
 //! ```
-//! use dohvrin::{row_text, search, AnyOrder, Event, Found, Lent, Searched, TEXT, WORK};
+//! use dohvrin::{row_text, search, AnyOrder, Event, Found, Lent, TEXT, WORK};
 //!
 //! let order = AnyOrder::new(&[1, 3], 1, 4, 2, 6);
 //! let (mut events, mut paths, mut work) = ([Event::default(); 5], [0; 30], vec![0; WORK]);
@@ -84,12 +86,12 @@
 //!     undetected: &mut undetected,
 //!     work: &mut work,
 //! };
-//! let found = Found { events: 5, paths: 13, polynomial: 0x5 };
-//! assert_eq!(search(order, lent), Ok(Searched::Found(found)));
+//! let found = Found { events: 5, paths: 13, polynomial: 0x5, shared: 1 };
+//! assert_eq!(search(order, lent), Ok(found));
 //! assert_eq!(undetected, [0, 0, 0, 1, 0, 0]);
 //! let size = row_text(order, found, &plain, &undetected, &mut text).unwrap();
 //! assert!(text[..size].starts_with(b"ORDER 2 1 4 2 6 1 3\nEVENTS 5\nPATHS 13\nA 1 0 0\n"));
-//! assert!(text[..size].ends_with(b"A 5 4 0\nCRC 0x5\n"));
+//! assert!(text[..size].ends_with(b"A 5 4 0\nCRC 0x5 1\n"));
 //! ```
 
 pub mod calls;
@@ -113,6 +115,6 @@ pub use order::Order;
 pub use quote::Quote;
 pub use refusal::Refusal;
 pub use row::Row;
-pub use search::{count, quote, refusal_text, row_text, search, Found, Lent, Searched, TEXT};
+pub use search::{count, quote, refusal_text, row_text, search, Found, Lent, TEXT};
 pub use tables::Tables;
 pub use word::{append, encode, halves, joined, strip, test, weigh, Stripped};

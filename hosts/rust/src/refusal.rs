@@ -2,7 +2,6 @@
 
 use std::error::Error;
 use std::fmt;
-use std::mem::discriminant;
 
 /// A refusal, named after what its question asks about; `meaning` says it in a
 /// line.
@@ -36,47 +35,40 @@ pub enum Refusal {
     Events,
     /// Question 14.
     Paths,
-    /// Question 15: how many candidates share the best counts.
-    Tie { left: u64 },
-    /// Question 16, which is asked after 9.
+    /// Question 16, which is asked after 9. No question has number 15.
     SharedFactor,
 }
 
-/// All of them in the order of their numbers, from 1 on.
-const ALL: [Refusal; 16] = [
-    Refusal::RecordLength,
-    Refusal::Version,
-    Refusal::GeneratorCount,
-    Refusal::Memory,
-    Refusal::WordLength,
-    Refusal::CheckDegree,
-    Refusal::Threshold,
-    Refusal::Generator,
-    Refusal::GeneratorEnds,
-    Refusal::Room,
-    Refusal::Polynomial,
-    Refusal::Word,
-    Refusal::Events,
-    Refusal::Paths,
-    Refusal::Tie { left: 0 },
-    Refusal::SharedFactor,
+/// All of them with the numbers of their questions.
+const ALL: [(u64, Refusal); 15] = [
+    (1, Refusal::RecordLength),
+    (2, Refusal::Version),
+    (3, Refusal::GeneratorCount),
+    (4, Refusal::Memory),
+    (5, Refusal::WordLength),
+    (6, Refusal::CheckDegree),
+    (7, Refusal::Threshold),
+    (8, Refusal::Generator),
+    (9, Refusal::GeneratorEnds),
+    (10, Refusal::Room),
+    (11, Refusal::Polynomial),
+    (12, Refusal::Word),
+    (13, Refusal::Events),
+    (14, Refusal::Paths),
+    (16, Refusal::SharedFactor),
 ];
 
 impl Refusal {
-    /// The refusal of a number from 1 to 16; `left` is told with 15 alone.
-    pub fn of(number: u64, left: u64) -> Option<Refusal> {
-        let place = usize::try_from(number.checked_sub(1)?).ok()?;
-        ALL.get(place).map(|refusal| match refusal {
-            Refusal::Tie { .. } => Refusal::Tie { left },
-            other => *other,
-        })
+    /// The refusal of a number: 1 to 14, or 16.
+    pub fn of(number: u64) -> Option<Refusal> {
+        let found = ALL.iter().find(|(listed, _)| *listed == number);
+        found.map(|(_, refusal)| *refusal)
     }
 
     /// The number of its question.
     pub fn number(self) -> u64 {
-        let same = |other: &Refusal| discriminant(other) == discriminant(&self);
-        let place = ALL.iter().position(same).expect("all are listed");
-        place as u64 + 1
+        let found = ALL.iter().find(|(_, listed)| *listed == self);
+        found.expect("all are listed").0
     }
 
     /// What it means, in one line.
@@ -104,16 +96,7 @@ impl Refusal {
             Refusal::Word => "the word or message has too many bits",
             Refusal::Events => "there are more error events than the event table takes",
             Refusal::Paths => "there are more paths than the path table takes",
-            Refusal::Tie { .. } => "several polynomials share the best counts",
             Refusal::SharedFactor => "the generators share a factor",
-        }
-    }
-
-    /// How many candidates are left: with a tie, else 0.
-    pub fn left(self) -> u64 {
-        match self {
-            Refusal::Tie { left } => left,
-            _ => 0,
         }
     }
 }
@@ -124,7 +107,7 @@ impl Refusal {
 pub(crate) fn accepted(refusal: u64) -> Result<(), Refusal> {
     match refusal {
         0 => Ok(()),
-        number => Err(Refusal::of(number, 0).expect("the library refuses by a question")),
+        number => Err(Refusal::of(number).expect("the library refuses by a question")),
     }
 }
 
@@ -147,14 +130,13 @@ mod tests {
 
     #[test]
     fn numbers_and_refusals_belong_together() {
-        for number in 1..=16 {
-            let refusal = Refusal::of(number, 7).unwrap();
+        for number in (1..=14).chain([16]) {
+            let refusal = Refusal::of(number).unwrap();
             assert_eq!(refusal.number(), number);
-            assert_eq!(refusal.left(), if number == 15 { 7 } else { 0 });
             assert!(!refusal.meaning().contains('\n'));
         }
-        for number in [0, 17, u64::MAX] {
-            assert_eq!(Refusal::of(number, 0), None);
+        for number in [0, 15, 17, u64::MAX] {
+            assert_eq!(Refusal::of(number), None);
         }
         assert_eq!(accepted(0), Ok(()));
         assert_eq!(accepted(16), Err(Refusal::SharedFactor));
@@ -167,11 +149,16 @@ mod tests {
     }
 
     #[test]
+    #[should_panic(expected = "refuses by a question")]
+    fn the_number_that_no_question_has_any_more_is_no_acceptance() {
+        let _ = accepted(15);
+    }
+
+    #[test]
     fn some_by_name() {
         assert_eq!(Refusal::RecordLength.number(), 1);
         assert_eq!(Refusal::Room.number(), 10);
         assert_eq!(Refusal::Paths.number(), 14);
-        assert_eq!(Refusal::Tie { left: 2 }.number(), 15);
         assert_eq!(Refusal::SharedFactor.number(), 16);
     }
 }

@@ -9,7 +9,7 @@ use crate::{refusal_text, row_text, Found, Order, Refusal, TEXT};
 ///
 /// let order = Order::new(&[1, 3], 1, 3, 2, 4).unwrap();
 /// let row = Tables::with_entries(4, 7).search(&order).unwrap();
-/// assert_eq!(row.text().lines().last(), Some("CRC 0x5"));
+/// assert_eq!(row.text().lines().last(), Some("CRC 0x5 1"));
 /// assert_eq!(row.counts().collect::<Vec<_>>(), [(1, 0, 0), (2, 0, 0), (3, 4, 0)]);
 /// ```
 #[derive(Clone, Debug, PartialEq, Eq)]
@@ -41,6 +41,12 @@ impl Row {
         self.found.polynomial
     }
 
+    /// How many polynomials have its counts, it among them. 0: the polynomial was
+    /// given, and nobody was compared with it.
+    pub fn shared(&self) -> u64 {
+        self.found.shared
+    }
+
     /// How many paths have each weight from 1 to d - 1: entry w - 1 is weight w.
     pub fn plain(&self) -> &[u64] {
         &self.plain
@@ -70,7 +76,7 @@ impl Row {
 impl Refusal {
     /// The line that `dso` prints.
     pub fn text(self) -> String {
-        written(|buffer| refusal_text(self.number(), self.left(), buffer))
+        written(|buffer| refusal_text(self.number(), buffer))
     }
 }
 
@@ -99,7 +105,7 @@ mod tests {
             "A 3 4 0",
             "A 4 5 1",
             "A 5 4 0",
-            "CRC 0x5",
+            "CRC 0x5 1",
         ];
         assert_eq!(row.text(), lines.join("\n") + "\n");
         let counted = row
@@ -116,7 +122,7 @@ mod tests {
             let row = row.unwrap();
             assert_eq!(
                 row.text(),
-                "ORDER 2 1 4 1 1 1 3\nEVENTS 1\nPATHS 0\nCRC 0x3\n"
+                "ORDER 2 1 4 1 1 1 3\nEVENTS 1\nPATHS 0\nCRC 0x3 1\n"
             );
             assert_eq!((row.plain(), row.undetected()), (&[][..], &[][..]));
             assert_eq!(row.counts().count(), 0);
@@ -126,6 +132,6 @@ mod tests {
     #[test]
     fn refusals() {
         assert_eq!(Refusal::Polynomial.text(), "NO 11\n");
-        assert_eq!(Refusal::Tie { left: 2048 }.text(), "NO 15 2048\n");
+        assert_eq!(Refusal::SharedFactor.text(), "NO 16\n");
     }
 }

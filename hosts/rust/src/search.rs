@@ -45,32 +45,27 @@ pub struct Found {
     pub paths: usize,
     /// The best polynomial, or the one that was given.
     pub polynomial: u64,
+    /// How many polynomials have its counts, it among them: 1 or more where it
+    /// is the best. 0: the polynomial was given, and nobody was compared with it.
+    pub shared: u64,
 }
 
-/// What a search finds.
-#[derive(Clone, Copy, Debug, PartialEq, Eq)]
-pub enum Searched {
-    Found(Found),
-    /// Refusal 15: so many polynomials share the best counts.
-    Tied(u64),
-}
-
-/// The best check polynomial of degree m, by the paths of weight below d. The
-/// tables and `plain` are as `list` leaves them; `undetected` says how many
-/// paths of each weight from 1 to d - 1 pass the check of the best polynomial,
-/// or of each that shares the best counts, with zeros after them. Refusals 13
-/// and 14 leave zeros in all five; another refusal leaves all five as they were.
-pub fn search(order: AnyOrder, lent: Lent) -> Result<Searched, Refusal> {
-    searched(calls::search(order, lent))
+/// The best check polynomial of degree m, by the paths of weight below d: the
+/// smallest number of those with the best counts. The tables and `plain` are as
+/// `list` leaves them; `undetected` says how many paths of each weight from 1 to
+/// d - 1 pass the check of the polynomial, with zeros after them. Refusals 13 and
+/// 14 leave zeros in all five; another refusal leaves all five as they were.
+pub fn search(order: AnyOrder, lent: Lent) -> Result<Found, Refusal> {
+    found(calls::search(order, lent))
 }
 
 /// The same for the shorter length `bits`, from the events of a tail-biting
 /// order: those are collected for its own N and left so, and all else is told
 /// and left as `search` does for `bits`. Refusal 5: `bits` is above N, too; 13 is
-/// about N, 14 and 15 are about `bits`.
+/// about N, 14 is about `bits`.
 ///
 /// ```
-/// use dohvrin::{quote, AnyOrder, Event, Found, Lent, Searched, WORK};
+/// use dohvrin::{quote, AnyOrder, Event, Found, Lent, WORK};
 ///
 /// let order = AnyOrder::new(&[1, 3], 1, 4, 2, 6);
 /// let (mut events, mut paths, mut work) = ([Event::default(); 5], [0; 14], vec![0; WORK]);
@@ -82,26 +77,25 @@ pub fn search(order: AnyOrder, lent: Lent) -> Result<Searched, Refusal> {
 ///     undetected: &mut undetected,
 ///     work: &mut work,
 /// };
-/// let found = Found { events: 4, paths: 7, polynomial: 0x5 };
-/// assert_eq!(quote(order, 3, lent), Ok(Searched::Found(found)));
+/// let found = Found { events: 4, paths: 7, polynomial: 0x5, shared: 1 };
+/// assert_eq!(quote(order, 3, lent), Ok(found));
 /// assert_eq!(events.map(|event| event.length), [1, 2, 3, 4, 1]);
 /// assert_eq!(plain, [0, 0, 4, 3, 0]);
 /// ```
-pub fn quote(order: AnyOrder, bits: u64, lent: Lent) -> Result<Searched, Refusal> {
-    searched(calls::quote(order, bits, lent))
+pub fn quote(order: AnyOrder, bits: u64, lent: Lent) -> Result<Found, Refusal> {
+    found(calls::quote(order, bits, lent))
 }
 
-fn searched(answer: calls::Row) -> Result<Searched, Refusal> {
-    if answer.refusal == 15 {
-        return Ok(Searched::Tied(answer.left));
-    }
+/// What a call that searches answers.
+fn found(answer: calls::Row) -> Result<Found, Refusal> {
     accepted(answer.refusal)?;
     // Not more than the tables take.
-    Ok(Searched::Found(Found {
+    Ok(Found {
         events: answer.events as usize,
         paths: answer.paths as usize,
         polynomial: answer.polynomial,
-    }))
+        shared: answer.shared,
+    })
 }
 
 /// The undetected counts of one polynomial, which question 11 asks for degree m
@@ -129,10 +123,10 @@ pub fn row_text(
 }
 
 /// The text of a refusal, as `dso` prints it: how many bytes of the buffer it
-/// takes, with zeros after them. `left` is told with 15 alone. Refusal 10, a
-/// buffer below `TEXT`, leaves it as it was.
-pub fn refusal_text(number: u64, left: u64, text: &mut [u8]) -> Result<usize, Refusal> {
-    let answer = calls::refusal_text(number, left, text);
+/// takes, with zeros after them. The number may be any. Refusal 10, a buffer
+/// below `TEXT`, leaves it as it was.
+pub fn refusal_text(number: u64, text: &mut [u8]) -> Result<usize, Refusal> {
+    let answer = calls::refusal_text(number, text);
     accepted(answer.refusal)?;
     // Not more than the buffer has.
     Ok(answer.value as usize)

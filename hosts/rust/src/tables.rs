@@ -1,14 +1,14 @@
 //! The tables that a search needs, owned.
 
 use crate::{count, part, quote, search, words};
-use crate::{Entries, Event, Found, Lent, NoRoom, Order, Quote, Refusal, Row, Searched};
+use crate::{Entries, Event, Found, Lent, NoRoom, Order, Quote, Refusal, Row};
 use crate::{COUNTS, WORK};
 
 /// The numbers of a path.
 const PATH: usize = 2;
 
 /// Tables for events, paths, counts and work. What was listed can be read after
-/// an accepted call and after a tie; after another refusal there is nothing.
+/// an accepted call; after a refusal there is nothing.
 ///
 /// ```
 /// use dohvrin::{Order, Tables};
@@ -16,7 +16,8 @@ const PATH: usize = 2;
 /// let order = Order::new(&[1, 3], 1, 4, 2, 6).unwrap();
 /// let mut tables = Tables::for_order(&order, 1 << 20).unwrap();
 /// let row = tables.search(&order).unwrap();
-/// assert_eq!((row.events(), row.paths(), row.polynomial()), (5, 13, 0x5));
+/// assert_eq!((row.events(), row.paths()), (5, 13));
+/// assert_eq!((row.polynomial(), row.shared()), (0x5, 1));
 /// assert_eq!(tables.paths_of(4).collect::<Vec<_>>(), [3, 6, 9, 12, 15]);
 /// ```
 pub struct Tables {
@@ -70,11 +71,11 @@ impl Tables {
         }
     }
 
-    /// The row of the best polynomial of an order. After a tie, `undetected`
-    /// has the shared counts.
+    /// The row of the best polynomial of an order: the smallest number of those
+    /// with the best counts, and how many these are.
     pub fn search(&mut self, order: &Order) -> Result<Row, Refusal> {
         let answer = search(order.any(), self.lent());
-        self.searched(order, answer)
+        self.row(order, answer)
     }
 
     /// The row of the best polynomial for the shorter length of a quote. The event
@@ -82,33 +83,20 @@ impl Tables {
     pub fn quote(&mut self, quoted: &Quote) -> Result<Row, Refusal> {
         let (long, short) = (quoted.long(), quoted.short());
         let answer = quote(long.any(), short.bits(), self.lent());
-        self.searched(short, answer)
+        self.row(short, answer)
     }
 
-    /// The row for this order of what was found.
-    fn searched(
-        &mut self,
-        order: &Order,
-        answer: Result<Searched, Refusal>,
-    ) -> Result<Row, Refusal> {
-        self.listed = answer.map_or(0, |_| weights(order));
-        match answer? {
-            Searched::Found(found) => Ok(self.row(order, found)),
-            Searched::Tied(left) => Err(Refusal::Tie { left }),
-        }
-    }
-
-    /// The row of a polynomial, without a search.
+    /// The row of a polynomial, without a search: `shared` is 0, as it was given
+    /// and nobody was compared with it.
     pub fn count(&mut self, order: &Order, polynomial: u64) -> Result<Row, Refusal> {
         let answer = count(order.any(), polynomial, self.lent());
-        self.listed = answer.map_or(0, |_| weights(order));
-        let listed = answer?;
-        let found = Found {
+        let found = answer.map(|listed| Found {
             events: listed.events,
             paths: listed.paths,
             polynomial,
-        };
-        Ok(self.row(order, found))
+            shared: 0,
+        });
+        self.row(order, found)
     }
 
     fn lent(&mut self) -> Lent<'_> {
@@ -121,13 +109,15 @@ impl Tables {
         }
     }
 
-    fn row(&self, order: &Order, found: Found) -> Row {
-        Row {
+    /// The row for this order of what was found.
+    fn row(&mut self, order: &Order, answer: Result<Found, Refusal>) -> Result<Row, Refusal> {
+        self.listed = answer.map_or(0, |_| weights(order));
+        Ok(Row {
             order: order.clone(),
-            found,
+            found: answer?,
             plain: self.plain().to_vec(),
             undetected: self.undetected().to_vec(),
-        }
+        })
     }
 
     /// How many paths were listed of each weight from 1 to d - 1: entry w - 1 is
@@ -179,7 +169,7 @@ fn zeros<T: Clone + Default>(entries: usize) -> Option<Vec<T>> {
 #[cfg(test)]
 mod tests {
     use super::Tables;
-    use crate::{Entries, NoRoom, Order, Quote, Refusal};
+    use crate::{Entries, NoRoom, Order, Quote, Refusal, Row};
 
     fn code_s(bits: u64, d: u64) -> Order {
         Order::new(&[1, 3], 1, bits, 2, d).unwrap()
@@ -212,10 +202,17 @@ mod tests {
         assert_eq!(no_room, Some(NoRoom { needed, limit }));
     }
 
+    /// The polynomial of a row, and how many share its counts.
+    fn chosen(row: &Row) -> (u64, u64) {
+        (row.polynomial(), row.shared())
+    }
+
     #[test]
-    fn a_tie_leaves_the_lists() {
+    fn the_smallest_of_those_that_share_the_best_counts() {
         let mut tables = Tables::with_entries(5, 13);
-        assert_eq!(tables.search(&code_s(4, 5)), Err(Refusal::Tie { left: 2 }));
+        let row = tables.search(&code_s(4, 5)).unwrap();
+        assert_eq!(chosen(&row), (0x5, 2));
+        assert_eq!(row.text().lines().last(), Some("CRC 0x5 2"));
         assert_eq!(tables.undetected(), [0, 0, 0, 1]);
         assert_eq!(tables.plain(), [0, 0, 4, 5]);
         let counts = [0, 1, 2, 3, 4, 5, 64].map(|weight| tables.paths_of(weight).count());
@@ -257,16 +254,16 @@ mod tests {
     }
 
     #[test]
-    fn a_tie_of_a_quote_leaves_the_lists_of_its_length() {
+    fn the_smallest_of_those_that_share_the_best_counts_for_the_shorter_length() {
         let mut tables = Tables::with_entries(5, 13);
-        let quote = quoted(4, 3, 3);
-        assert_eq!(tables.quote(&quote), Err(Refusal::Tie { left: 2 }));
+        let row = tables.quote(&quoted(4, 3, 3)).unwrap();
+        assert_eq!(chosen(&row), (0x5, 2));
         assert_eq!(
             (tables.plain(), tables.undetected()),
             (&[0; 2][..], &[0; 2][..])
         );
-        let quote = quoted(5, 5, 4);
-        assert_eq!(tables.quote(&quote), Err(Refusal::Tie { left: 2 }));
+        let row = tables.quote(&quoted(5, 5, 4)).unwrap();
+        assert_eq!(chosen(&row), (0x5, 2));
         assert_eq!(tables.undetected(), [0, 0, 0, 1]);
         assert_eq!(tables.paths_of(4).count(), 5);
     }
@@ -286,7 +283,9 @@ mod tests {
             .count(&code_s(4, 6), 0x7)
             .unwrap();
         assert_eq!(row.undetected(), [0, 0, 0, 1, 2]);
-        assert_eq!(row.polynomial(), 0x7);
+        // Given, and compared with none.
+        assert_eq!(chosen(&row), (0x7, 0));
+        assert_eq!(row.text().lines().last(), Some("CRC 0x7 0"));
     }
 
     #[test]
@@ -313,7 +312,7 @@ mod tests {
     fn a_table_at_its_limit_stays() {
         let mut tables = Tables::with_entries(4, 13);
         assert!(!tables.grow(Refusal::Events, 4 * 40 + 13 * 16));
-        assert!(!tables.grow(Refusal::Tie { left: 2 }, 1 << 20));
+        assert!(!tables.grow(Refusal::Polynomial, 1 << 20));
         let kept = tables.entries();
         assert_eq!((kept.events, kept.paths), (4, 13));
     }

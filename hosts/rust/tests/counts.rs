@@ -3,10 +3,10 @@
 mod lent;
 
 use dohvrin::{count, list, part, quote, row_text, search};
-use dohvrin::{AnyOrder, Event, Found, Lent, Link, Listed, Refusal, Searched, TEXT, WORK};
+use dohvrin::{AnyOrder, Event, Found, Lent, Link, Listed, Refusal, TEXT, WORK};
 use lent::lent;
 
-/// Code S with this threshold; m is 1, so that one polynomial is left.
+/// Code S with this threshold; m is 1, so that there is one polynomial.
 fn order(link: Link, d: u64) -> AnyOrder {
     AnyOrder::new(&[1, 3], 1, 4, 1, d).with_link(link)
 }
@@ -68,6 +68,7 @@ fn a_text_takes_as_many() {
         events: 5,
         paths: 13,
         polynomial: 0x3,
+        shared: u64::MAX,
     };
     let (order, mut text) = (order(Link::TailBiting, 6), [9; TEXT]);
     for (plain, undetected) in [(4, 5), (5, 4), (0, 5), (5, 0)] {
@@ -84,13 +85,14 @@ fn a_text_takes_as_many() {
         &mut text,
     )
     .unwrap();
-    let expected = "A 1 1 5\nA 2 2 4\nA 3 3 3\nA 4 4 2\nA 5 5 1\nCRC 0x3\n";
+    let expected = "A 1 1 5\nA 2 2 4\nA 3 3 3\nA 4 4 2\nA 5 5 1\nCRC 0x3 18446744073709551615\n";
     assert!(text[..size].ends_with(expected.as_bytes()));
     let one = AnyOrder { d: 1, ..order };
-    let size = row_text(one, found, &[], &[], &mut text).unwrap();
+    let given = Found { shared: 0, ..found };
+    let size = row_text(one, given, &[], &[], &mut text).unwrap();
     assert_eq!(
         &text[..size],
-        b"ORDER 2 1 4 1 1 1 3\nEVENTS 5\nPATHS 13\nCRC 0x3\n"
+        b"ORDER 2 1 4 1 1 1 3\nEVENTS 5\nPATHS 13\nCRC 0x3 0\n"
     );
 }
 
@@ -101,12 +103,10 @@ fn empty_lists_for_d_1() {
             events: 1,
             paths: 0,
             polynomial: 0x3,
+            shared: 1,
         };
         let (searched, left) = with_counts(0, 0, |l| search(order, l));
-        assert_eq!(
-            (searched, left),
-            (Ok(Searched::Found(found)), [vec![], vec![]])
-        );
+        assert_eq!((searched, left), (Ok(found), [vec![], vec![]]));
         // What is past the last weight is 0.
         let (_, left) = with_counts(2, 1, |l| search(order, l));
         assert_eq!(left, [vec![0, 0], vec![0]]);
@@ -116,9 +116,14 @@ fn empty_lists_for_d_1() {
             paths: 0,
         };
         assert_eq!(counted, Ok(listed));
-        // Several are left, where m is not 1.
-        let (tied, _) = with_counts(0, 0, |l| search(AnyOrder { m: 3, ..order }, l));
-        assert_eq!(tied, Ok(Searched::Tied(4)));
+        // All share them, where m is not 1.
+        let (searched, _) = with_counts(0, 0, |l| search(AnyOrder { m: 3, ..order }, l));
+        let all = Found {
+            polynomial: 0x9,
+            shared: 4,
+            ..found
+        };
+        assert_eq!(searched, Ok(all));
         // The work area is still asked for.
         assert_eq!(lent(0, WORK - 1, |l| search(order, l)), Err(Refusal::Room));
     }

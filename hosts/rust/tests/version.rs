@@ -58,6 +58,7 @@ fn before_a_text() {
         events: 4,
         paths: 6,
         polynomial: 0x5,
+        shared: 1,
     };
     for order in WRONG.into_iter().flat_map(orders) {
         for room in [0, TEXT] {

@@ -16,7 +16,8 @@ standard input.
   --terminated     a terminated link: v zeros follow the word
   --events E       entries of the event table (512)
   --paths P        entries of the path table (2048)
-  --of 0x61        undetected counts of this polynomial, without a search
+  --of 0x61        undetected counts of this polynomial, without a search: the
+                   last line is CRC 0x61 0
   --quote N'       the row of the length N' instead, question 13 being about N;
                    several lengths as 70,64, or one after each --quote
   --list events    the events instead of the row: state length weight input

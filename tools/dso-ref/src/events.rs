@@ -57,7 +57,7 @@ pub fn count(order: &Order, capacity: usize) -> Result<usize, Refusal> {
     if walk_all(order.code(), order.threshold(), &mut take) {
         Ok(events)
     } else {
-        Err(Refusal::No(13))
+        Err(Refusal(13))
     }
 }
 
@@ -97,7 +97,7 @@ fn listed(code: Code, threshold: usize, capacity: usize) -> Result<Vec<Event>, R
         events.len() <= capacity
     };
     if !walk_all(code, threshold, &mut take) {
-        return Err(Refusal::No(13));
+        return Err(Refusal(13));
     }
     events.sort_unstable();
     Ok(events)

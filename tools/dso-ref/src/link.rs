@@ -167,7 +167,6 @@ fn ask_check(length: usize, m: usize, p: u64) -> Asked {
 #[cfg(test)]
 mod tests {
     use super::*;
-    use Refusal::No;
 
     const S: Code = Code::of(Kind::TailBiting, 1, 4, &[1, 3]);
 
@@ -205,19 +204,19 @@ mod tests {
             let word = append(128, 12, 0x1565, f).unwrap();
             assert_eq!(strip(128, 12, 0x1565, word), Ok(Stripped::Message(f)));
         }
-        assert_eq!(append(128, 12, 0x1565, 1 << 116), Err(No(12)));
+        assert_eq!(append(128, 12, 0x1565, 1 << 116), Err(Refusal(12)));
     }
 
     #[test]
     fn check_calls_ask_in_order() {
-        assert_eq!(append(0, 13, 0, !0), Err(No(5)));
-        assert_eq!(strip(129, 2, 0x5, 0), Err(No(5)));
-        assert_eq!(append(1, 1, 0x3, 0), Err(No(6)));
-        assert_eq!(append(4, 2, 0x6, 9), Err(No(11)));
-        assert_eq!(append(4, 2, 0xD, 0), Err(No(11)));
-        assert_eq!(append(4, 2, 0x5, 4), Err(No(12)));
-        assert_eq!(strip(4, 2, 0x5, 16), Err(No(12)));
-        assert_eq!(divides(4, 2, 0x5, 16), Err(No(12)));
+        assert_eq!(append(0, 13, 0, !0), Err(Refusal(5)));
+        assert_eq!(strip(129, 2, 0x5, 0), Err(Refusal(5)));
+        assert_eq!(append(1, 1, 0x3, 0), Err(Refusal(6)));
+        assert_eq!(append(4, 2, 0x6, 9), Err(Refusal(11)));
+        assert_eq!(append(4, 2, 0xD, 0), Err(Refusal(11)));
+        assert_eq!(append(4, 2, 0x5, 4), Err(Refusal(12)));
+        assert_eq!(strip(4, 2, 0x5, 16), Err(Refusal(12)));
+        assert_eq!(divides(4, 2, 0x5, 16), Err(Refusal(12)));
     }
 
     #[test]
@@ -253,7 +252,7 @@ mod tests {
         let tail: Vec<u8> = (0..9).flat_map(|j| [of(0o561, j), of(0o753, j)]).collect();
         assert_eq!(bits[254..], tail);
         assert_eq!(weight(long, 1 << 127), Ok(12));
-        assert_eq!(encode(long, 0, 271), Err(No(10)));
+        assert_eq!(encode(long, 0, 271), Err(Refusal(10)));
         assert_eq!(encode(long, 0, 272), Ok(vec![0; 272]));
     }
 
@@ -266,37 +265,37 @@ mod tests {
                 length: 0,
                 generators: &[0],
             };
-            assert_eq!(encode(none, !0, 0), Err(No(2)));
-            assert_eq!(weight(Code { version, ..S }, 0), Err(No(2)));
+            assert_eq!(encode(none, !0, 0), Err(Refusal(2)));
+            assert_eq!(weight(Code { version, ..S }, 0), Err(Refusal(2)));
         }
     }
 
     #[test]
     fn encoder_calls_ask_in_order() {
         let none = Code::of(Kind::Terminated, 0, 0, &[0]);
-        assert_eq!(encode(none, !0, 0), Err(No(3)));
+        assert_eq!(encode(none, !0, 0), Err(Refusal(3)));
         let two = Code {
             generators: &[0, 0],
             ..none
         };
-        assert_eq!(encode(two, !0, 0), Err(No(4)));
+        assert_eq!(encode(two, !0, 0), Err(Refusal(4)));
         let short = Code::of(Kind::Terminated, 2, 1, &[0, 0]);
-        assert_eq!(encode(short, !0, 0), Err(No(5)));
+        assert_eq!(encode(short, !0, 0), Err(Refusal(5)));
         let zero = Code { length: 2, ..short };
-        assert_eq!(weight(zero, !0), Err(No(8)));
+        assert_eq!(weight(zero, !0), Err(Refusal(8)));
         let no_end = Code {
             generators: &[1, 3],
             ..zero
         };
-        assert_eq!(weight(no_end, !0), Err(No(9)));
+        assert_eq!(weight(no_end, !0), Err(Refusal(9)));
         let shared = Code {
             generators: &[5, 3],
             ..zero
         };
-        assert_eq!(weight(shared, !0), Err(No(16)));
-        assert_eq!(encode(shared, !0, 0), Err(No(16)));
-        assert_eq!(encode(S, 16, 7), Err(No(10)));
-        assert_eq!(encode(S, 16, 8), Err(No(12)));
-        assert_eq!(weight(S, 16), Err(No(12)));
+        assert_eq!(weight(shared, !0), Err(Refusal(16)));
+        assert_eq!(encode(shared, !0, 0), Err(Refusal(16)));
+        assert_eq!(encode(S, 16, 7), Err(Refusal(10)));
+        assert_eq!(encode(S, 16, 8), Err(Refusal(12)));
+        assert_eq!(weight(S, 16), Err(Refusal(12)));
     }
 }

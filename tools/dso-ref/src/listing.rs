@@ -60,12 +60,12 @@ pub fn counts_of(threshold: usize, paths: &[(u32, u128)]) -> Vec<u128> {
 pub fn part(numbers: usize, counts: &[u64], weight: u64) -> Result<Range<usize>, Refusal> {
     let counted = |weight: &usize| (1..=counts.len()).contains(weight);
     let weight = usize::try_from(weight).ok().filter(counted);
-    let weight = weight.ok_or(Refusal::No(10))?;
+    let weight = weight.ok_or(Refusal(10))?;
     // 2^64 numbers of 64 bits do not pass 128 bits.
     let sum = |counts: &[u64]| counts.iter().map(|&c| u128::from(c)).sum::<u128>();
     let end = sum(&counts[..weight]);
     if end > numbers as u128 / 2 {
-        return Err(Refusal::No(10));
+        return Err(Refusal(10));
     }
     let start = sum(&counts[..weights::entry(weight)]);
     Ok(2 * start as usize..2 * end as usize)
@@ -88,11 +88,11 @@ mod tests {
         };
         assert_eq!(of(3), [1, 2, 4, 8]);
         assert_eq!(of(6), [5, 10]);
-        assert_eq!(list(S, 7, 14), Err(Refusal::No(14)));
+        assert_eq!(list(S, 7, 14), Err(Refusal(14)));
         let counts = counts_of(7, &paths);
         assert_eq!(counts, [0, 0, 4, 5, 4, 2]);
         assert_eq!(counts, plain(S, 7, 15).unwrap());
-        assert_eq!(plain(S, 7, 14), Err(Refusal::No(14)));
+        assert_eq!(plain(S, 7, 14), Err(Refusal(14)));
     }
 
     #[test]
@@ -100,23 +100,23 @@ mod tests {
         let code = Code::of(Kind::Terminated, 1, 3, &[1, 3]);
         let paths = [(3, 1), (3, 2), (3, 4), (4, 3), (4, 6), (5, 7)];
         assert_eq!(list(code, 6, 6).unwrap(), paths);
-        assert_eq!(list(code, 6, 5), Err(Refusal::No(14)));
+        assert_eq!(list(code, 6, 5), Err(Refusal(14)));
         assert_eq!(plain(code, 6, 6).unwrap(), [0, 0, 3, 2, 1]);
     }
 
     #[test]
     fn questions_in_order() {
         assert_eq!(ask(S, 7, 6, 8192), Ok(()));
-        assert_eq!(ask(S, 7, 5, 8192), Err(Refusal::No(10)));
-        assert_eq!(ask(S, 7, 6, 8191), Err(Refusal::No(10)));
-        assert_eq!(ask(S, 2, 0, 8192), Err(Refusal::No(10)));
-        assert_eq!(ask(S, 0, 6, 0), Err(Refusal::No(7)));
-        assert_eq!(ask(Code { version: 3, ..S }, 0, 6, 0), Err(Refusal::No(2)));
+        assert_eq!(ask(S, 7, 5, 8192), Err(Refusal(10)));
+        assert_eq!(ask(S, 7, 6, 8191), Err(Refusal(10)));
+        assert_eq!(ask(S, 2, 0, 8192), Err(Refusal(10)));
+        assert_eq!(ask(S, 0, 6, 0), Err(Refusal(7)));
+        assert_eq!(ask(Code { version: 3, ..S }, 0, 6, 0), Err(Refusal(2)));
         let shared = Code {
             generators: &[3, 3],
             ..S
         };
-        assert_eq!(ask(shared, 7, 0, 0), Err(Refusal::No(16)));
+        assert_eq!(ask(shared, 7, 0, 0), Err(Refusal(16)));
     }
 
     #[test]
@@ -131,7 +131,7 @@ mod tests {
 
     #[test]
     fn parts_of_tables() {
-        let no = Err(Refusal::No(10));
+        let no = Err(Refusal(10));
         let counts = [0, 0, 4, 5, 4, 2];
         assert_eq!(part(30, &counts, 6), Ok(26..30));
         assert_eq!(part(31, &counts, 6), Ok(26..30));
@@ -150,8 +150,8 @@ mod tests {
     fn weights_that_have_no_count() {
         for weight in [0, 7, 1 << 32 | 6, u64::MAX] {
             let counts = [0, 0, 4, 5, 4, 2];
-            assert_eq!(part(30, &counts, weight), Err(Refusal::No(10)), "{weight}");
-            assert_eq!(part(30, &[], weight), Err(Refusal::No(10)), "{weight}");
+            assert_eq!(part(30, &counts, weight), Err(Refusal(10)), "{weight}");
+            assert_eq!(part(30, &[], weight), Err(Refusal(10)), "{weight}");
         }
     }
 }

@@ -37,7 +37,7 @@ impl Order {
     /// Asks questions 1 to 9 and 16 about the bytes of a record.
     pub fn from_record(bytes: &[u8]) -> Result<Order, Refusal> {
         let body = body_of(bytes)?;
-        let version = *body.first().ok_or(Refusal::No(2))?;
+        let version = *body.first().ok_or(Refusal(2))?;
         let kind = questions::kind(version.into())?;
         check_count(body)?;
         let number = |at: usize| usize::from(body[at]);
@@ -88,21 +88,21 @@ impl Order {
 /// Question 1: two bytes of length that count the bytes after them.
 fn body_of(bytes: &[u8]) -> Result<&[u8], Refusal> {
     if bytes.len() < 2 {
-        return Err(Refusal::No(1));
+        return Err(Refusal(1));
     }
     let (length, body) = bytes.split_at(2);
     if usize::from(u16::from_be_bytes([length[0], length[1]])) != body.len() {
-        return Err(Refusal::No(1));
+        return Err(Refusal(1));
     }
     Ok(body)
 }
 
 /// Question 3 in a record, where n is a byte of its own.
 fn check_count(body: &[u8]) -> Asked {
-    let n = usize::from(*body.get(1).ok_or(Refusal::No(3))?);
+    let n = usize::from(*body.get(1).ok_or(Refusal(3))?);
     questions::generator_count(n)?;
     if body.len() != 6 + 2 * n {
-        return Err(Refusal::No(3));
+        return Err(Refusal(3));
     }
     Ok(())
 }
@@ -150,19 +150,19 @@ mod tests {
                     let written = record_bytes(Kind::Terminated, numbers, &[1, 3]);
                     assert_eq!(written.unwrap(), bytes);
                 }
-                _ => assert_eq!(read, Err(Refusal::No(2))),
+                _ => assert_eq!(read, Err(Refusal(2))),
             }
             // Before n is looked at.
             bytes[3] = 0;
             let number = if (1..=2).contains(&version) { 3 } else { 2 };
-            assert_eq!(Order::from_record(&bytes), Err(Refusal::No(number)));
+            assert_eq!(Order::from_record(&bytes), Err(Refusal(number)));
         }
     }
 
     #[test]
     fn a_record_cut_off_anywhere_is_refused_by_question_1() {
         for bytes in 0..ROW.len() {
-            assert_eq!(Order::from_record(&ROW[..bytes]), Err(Refusal::No(1)));
+            assert_eq!(Order::from_record(&ROW[..bytes]), Err(Refusal(1)));
         }
     }
 
@@ -172,7 +172,7 @@ mod tests {
             let mut bytes = vec![0, after];
             bytes.extend_from_slice(&ROW[2..2 + usize::from(after)]);
             let number = if after == 0 { 2 } else { 3 };
-            assert_eq!(Order::from_record(&bytes), Err(Refusal::No(number)));
+            assert_eq!(Order::from_record(&bytes), Err(Refusal(number)));
         }
     }
 
@@ -183,8 +183,7 @@ mod tests {
                 Kind::ALL.map(
                     |kind| match Order::new(Code::of(kind, v, length, g), m, d) {
                         Ok(_) => 0,
-                        Err(Refusal::No(number)) => number,
-                        Err(Refusal::Tie(_)) => 15,
+                        Err(Refusal(number)) => number,
                     },
                 );
             assert_eq!(one, other);

@@ -8,10 +8,7 @@ use std::fmt;
 
 impl fmt::Display for Refusal {
     fn fmt(&self, f: &mut fmt::Formatter) -> fmt::Result {
-        match self {
-            Refusal::No(number) => write!(f, "NO {number}"),
-            Refusal::Tie(left) => write!(f, "NO 15 {left}"),
-        }
+        write!(f, "NO {}", self.0)
     }
 }
 
@@ -31,6 +28,7 @@ impl fmt::Display for Row {
             plain: &self.plain,
             undetected: &self.undetected,
             polynomial: self.polynomial,
+            shared: self.shared,
         };
         printed.fmt(f)
     }
@@ -53,6 +51,8 @@ pub struct Printed<'a> {
     pub undetected: &'a [u128],
     /// The polynomial.
     pub polynomial: u64,
+    /// How many share its counts.
+    pub shared: usize,
 }
 
 impl fmt::Display for Printed<'_> {
@@ -62,7 +62,7 @@ impl fmt::Display for Printed<'_> {
         for (w, (plain, undetected)) in (1..).zip(self.plain.iter().zip(self.undetected)) {
             writeln!(f, "A {w} {plain} {undetected}")?;
         }
-        write!(f, "CRC 0x{:X}", self.polynomial)
+        write!(f, "CRC 0x{:X} {}", self.polynomial, self.shared)
     }
 }
 

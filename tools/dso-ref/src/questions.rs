@@ -1,18 +1,14 @@
 //! The questions of document 01, one function each. A call asks those that
 //! concern the values it takes, in the order of their numbers, but for 16, which
-//! stands after 9.
+//! stands after 9. No question has the number 15.
 
 use crate::link::Kind;
 use crate::poly;
 
-/// The answer of a refused call.
-#[derive(Clone, Debug, PartialEq, Eq)]
-pub enum Refusal {
-    /// The number of the first question answered with no.
-    No(u8),
-    /// Question 15: how many candidates are left after the last weight.
-    Tie(usize),
-}
+/// The answer of a refused call: the number of the first question answered with
+/// no.
+#[derive(Clone, Copy, Debug, PartialEq, Eq)]
+pub struct Refusal(pub u8);
 
 /// What a question gives: nothing, or the refusal.
 pub type Asked = Result<(), Refusal>;
@@ -21,14 +17,14 @@ fn ask(number: u8, yes: bool) -> Asked {
     if yes {
         Ok(())
     } else {
-        Err(Refusal::No(number))
+        Err(Refusal(number))
     }
 }
 
 /// Question 2: is the version that of a kind of link, and of which?
 pub fn kind(version: u64) -> Result<Kind, Refusal> {
     let named = |kind: &Kind| kind.version() == version;
-    Kind::ALL.into_iter().find(named).ok_or(Refusal::No(2))
+    Kind::ALL.into_iter().find(named).ok_or(Refusal(2))
 }
 
 /// Question 2 for a quote: is the version that of a tail-biting link?
@@ -128,7 +124,7 @@ mod tests {
     /// Whether generators that pass 8 and 9 pass 16.
     fn coprime(v: usize, given: &[u64]) -> bool {
         assert_eq!(generator_bits(v, given), Ok(()));
-        generators(v, given) != Err(Refusal::No(16))
+        generators(v, given) != Err(Refusal(16))
     }
 
     #[test]
@@ -155,10 +151,10 @@ mod tests {
 
     #[test]
     fn questions_8_and_9_come_first() {
-        assert_eq!(generators(1, &[0, 0]), Err(Refusal::No(8)));
-        assert_eq!(generators(1, &[6, 6]), Err(Refusal::No(8)));
-        assert_eq!(generators(1, &[2, 2]), Err(Refusal::No(9)));
-        assert_eq!(generators(2, &[3, 3]), Err(Refusal::No(9)));
+        assert_eq!(generators(1, &[0, 0]), Err(Refusal(8)));
+        assert_eq!(generators(1, &[6, 6]), Err(Refusal(8)));
+        assert_eq!(generators(1, &[2, 2]), Err(Refusal(9)));
+        assert_eq!(generators(2, &[3, 3]), Err(Refusal(9)));
     }
 
     fn product(a: u64, b: u64) -> u64 {

@@ -68,8 +68,7 @@ mod tests {
     fn no(code: Code, degree: usize, threshold: usize, length: usize) -> u8 {
         match Quote::new(code, degree, threshold, length) {
             Ok(_) => 0,
-            Err(Refusal::No(number)) => number,
-            Err(Refusal::Tie(_)) => 15,
+            Err(Refusal(number)) => number,
         }
     }
 
@@ -107,15 +106,28 @@ mod tests {
         let quote = Quote::new(S, 2, 6, 3).unwrap();
         assert_eq!((quote.long.length(), quote.short.length()), (4, 3));
         assert_eq!(quote.events(5).map(|events| events.len()), Ok(5));
-        assert_eq!(quote.events(4), Err(Refusal::No(13)));
+        assert_eq!(quote.events(4), Err(Refusal(13)));
         let with = |events, paths| row(&quote.long, 3, Lent { events, paths }, Method::Both);
         let found = with(5, 7).unwrap();
-        assert_eq!((found.events, found.paths, found.polynomial), (4, 7, 0x5));
+        assert_eq!((found.events, found.paths), (4, 7));
+        assert_eq!((found.polynomial, found.shared), (0x5, 1));
         assert_eq!(found.order, quote.short);
-        assert_eq!(with(4, 7), Err(Refusal::No(13).into()));
-        assert_eq!(with(5, 6), Err(Refusal::No(14).into()));
-        let tied = Quote::new(S, 2, 3, 3).unwrap().long;
-        let tied = row(&tied, 3, Lent::default(), Method::Both);
-        assert_eq!(tied, Err(Refusal::Tie(2).into()));
+        assert_eq!(with(4, 7), Err(Refusal(13).into()));
+        assert_eq!(with(5, 6), Err(Refusal(14).into()));
+    }
+
+    #[test]
+    fn who_shares_the_counts_is_asked_about_the_shorter_length() {
+        let shared = |length, threshold, quoted| {
+            let order = Order::new(Code { length, ..S }, 2, threshold).unwrap();
+            let found = row(&order, quoted, Lent::default(), Method::Both).unwrap();
+            (found.polynomial, found.shared)
+        };
+        assert_eq!(shared(4, 3, 3), (0x5, 2));
+        // Two at 4, one at 3 and at 5.
+        assert_eq!(shared(4, 5, 3), (0x5, 1));
+        assert_eq!(shared(4, 5, 4), (0x5, 2));
+        assert_eq!(shared(5, 5, 4), (0x5, 2));
+        assert_eq!(shared(5, 5, 5), (0x7, 1));
     }
 }

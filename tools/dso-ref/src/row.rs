@@ -1,4 +1,4 @@
-//! The row of an order: questions 11, 13, 14 and 15, and the counts.
+//! The row of an order: questions 11, 13 and 14, and the counts.
 
 use crate::events;
 use crate::order::Order;
@@ -51,8 +51,11 @@ pub struct Row {
     pub plain: Vec<u128>,
     /// Undetected counts by weight, from 1.
     pub undetected: Vec<u128>,
-    /// The polynomial given, or the best one.
+    /// The polynomial given, or the smallest of the best.
     pub polynomial: u64,
+    /// How many candidates have the best counts; 0 where the polynomial was
+    /// given, and nobody was compared with it.
+    pub shared: usize,
 }
 
 /// Why there is no row.
@@ -72,7 +75,8 @@ impl From<Refusal> for Failure {
     }
 }
 
-/// The row of an order: of the polynomial given, or else of the best one.
+/// The row of an order: of the polynomial given, or else of the smallest of the
+/// best.
 pub fn row(order: &Order, lent: Lent, of: Option<u64>, method: Method) -> Result<Row, Failure> {
     if let Some(p) = of {
         questions::polynomial(p, order.degree())?;
@@ -85,20 +89,18 @@ pub fn row(order: &Order, lent: Lent, of: Option<u64>, method: Method) -> Result
         || count(&mut Table::new(order), order, lent.paths, of),
     )??;
     let Counted { plain, best } = counted;
-    match best.who[..] {
-        [polynomial] => {
-            let paths = plain.iter().sum();
-            Ok(Row {
-                order: order.clone(),
-                events,
-                paths,
-                plain,
-                undetected: best.counts,
-                polynomial,
-            })
-        }
-        _ => Err(Failure::Refused(Refusal::Tie(best.who.len()))),
-    }
+    Ok(Row {
+        order: order.clone(),
+        events,
+        paths: plain.iter().sum(),
+        plain,
+        polynomial: best.smallest(),
+        shared: match of {
+            Some(_) => 0,
+            None => best.who.len(),
+        },
+        undetected: best.counts,
+    })
 }
 
 /// The paths of an order, weight and number each, after questions 13 and 14.
@@ -160,7 +162,7 @@ pub fn plain_within(
             .iter()
             .fold(0u128, |sum, &count| sum.saturating_add(count));
         if paths > capacity as u128 {
-            return Err(Refusal::No(14));
+            return Err(Refusal(14));
         }
     }
     Ok(plain)

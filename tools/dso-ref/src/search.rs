@@ -25,6 +25,13 @@ pub struct Best {
     pub who: Vec<u64>,
 }
 
+impl Best {
+    /// The smallest number among them: the one that a search answers with.
+    pub fn smallest(&self) -> u64 {
+        *self.who.iter().min().expect("one at the least is best")
+    }
+}
+
 /// The candidates of degree m left after the last weight. `plain` holds the
 /// plain counts of the weights to be compared, from 1.
 ///

@@ -90,11 +90,7 @@ fn the_path_table_is_exactly_full_or_one_short() {
         let with = |paths| row::paths(&order, Lent { events: ALL, paths }, Method::Both);
         assert_eq!(with(paths).unwrap().len(), paths);
         if let Some(short) = paths.checked_sub(1) {
-            assert_eq!(
-                with(short),
-                Err(Failure::Refused(Refusal::No(14))),
-                "{order}"
-            );
+            assert_eq!(with(short), Err(Failure::Refused(Refusal(14))), "{order}");
         }
     }
 }
@@ -149,12 +145,8 @@ fn events_agree_with_their_definition() {
             "{order}"
         );
         if let Some(short) = expected.len().checked_sub(1) {
-            assert_eq!(
-                events::count(&order, short),
-                Err(Refusal::No(13)),
-                "{order}"
-            );
-            assert_eq!(events::list(&order, short), Err(Refusal::No(13)), "{order}");
+            assert_eq!(events::count(&order, short), Err(Refusal(13)), "{order}");
+            assert_eq!(events::list(&order, short), Err(Refusal(13)), "{order}");
         }
     }
 }

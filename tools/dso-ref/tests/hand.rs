@@ -26,12 +26,14 @@ fn short(order: &Order) -> (usize, u128, Vec<u128>, u64) {
     (row.events, row.paths, row.undetected, row.polynomial)
 }
 
-fn no(number: u8) -> Result<Row, Failure> {
-    Err(Failure::Refused(Refusal::No(number)))
+/// The polynomial of an accepted row, and how many share its counts.
+fn chosen(order: &Order) -> (u64, usize) {
+    let row = run(order, Lent::default()).unwrap();
+    (row.polynomial, row.shared)
 }
 
-fn tie(left: usize) -> Result<Row, Failure> {
-    Err(Failure::Refused(Refusal::Tie(left)))
+fn no(number: u8) -> Result<Row, Failure> {
+    Err(Failure::Refused(Refusal(number)))
 }
 
 #[test]
@@ -45,14 +47,17 @@ fn code_s_of_length_3() {
         .collect();
     assert_eq!(listed, ["0 1 0 0", "0 2 3 1", "0 3 4 3", "1 1 1 1"]);
     assert_eq!(short(&order(3, 2, 4, &[1, 3])).2, [0; 3]);
-    assert_eq!(short(&order(3, 2, 4, &[1, 3])).3, 0x5);
-    assert_eq!(run(&order(3, 2, 3, &[1, 3]), Lent::default()), tie(2));
+    assert_eq!(chosen(&order(3, 2, 4, &[1, 3])), (0x5, 1));
+    // No path weighs 1 or 2, so nothing tells 0x5 from 0x7.
+    let two = order(3, 2, 3, &[1, 3]);
+    assert_eq!(short(&two), (2, 0, vec![0, 0], 0x5));
+    assert_eq!(chosen(&two), (0x5, 2));
 }
 
 #[test]
 fn the_collection_takes_no_check_degree_and_asks_in_order() {
     let code = |memory, length, generators| Code::of(Kind::TailBiting, memory, length, generators);
-    let no = |number| Err(Refusal::No(number));
+    let no = |number| Err(Refusal(number));
     let loops = |code| events::collect(code, 2, 2, 8192).map(|listed| listed.len());
     // One step from each state back to it: 0 of weight 0, 1 of weight 1.
     assert_eq!(loops(code(1, 1, &[1, 3])), Ok(2));
@@ -75,25 +80,37 @@ fn the_collection_takes_no_check_degree_and_asks_in_order() {
 
 #[test]
 fn code_s_of_length_4() {
-    let tied = order(4, 2, 5, &[1, 3]);
-    assert_eq!(run(&tied, Lent::default()), tie(2));
-    let shared = Best {
+    let two = order(4, 2, 5, &[1, 3]);
+    let row = run(&two, Lent::default()).unwrap();
+    let lines = [
+        "ORDER 2 1 4 2 5 1 3",
+        "EVENTS 4",
+        "PATHS 9",
+        "A 1 0 0",
+        "A 2 0 0",
+        "A 3 4 0",
+        "A 4 5 1",
+        "CRC 0x5 2",
+    ];
+    assert_eq!(row.to_string(), lines.join("\n"));
+    let best = Best {
         counts: vec![0, 0, 0, 1],
         who: vec![0x5, 0x7],
     };
-    assert_eq!(
-        count(&mut Table::new(&tied), &tied, 2048, None)
-            .unwrap()
-            .best,
-        shared
-    );
-    assert_eq!(
-        count(&mut Words::new(&tied).unwrap(), &tied, 2048, None)
-            .unwrap()
-            .best,
-        shared
-    );
-    assert_eq!(short(&order(4, 2, 6, &[1, 3])).3, 0x5);
+    let by_table = count(&mut Table::new(&two), &two, 2048, None).unwrap();
+    let by_words = count(&mut Words::new(&two).unwrap(), &two, 2048, None).unwrap();
+    assert_eq!([&by_table.best, &by_words.best], [&best; 2]);
+    assert_eq!(chosen(&order(4, 2, 6, &[1, 3])), (0x5, 1));
+}
+
+#[test]
+fn the_smallest_is_chosen_in_any_order() {
+    let best = |who: &[u64]| Best {
+        counts: vec![],
+        who: who.to_vec(),
+    };
+    assert_eq!(best(&[0x7, 0x5]).smallest(), 0x5);
+    assert_eq!(best(&[0x1001, 0x1FFF]).smallest(), 0x1001);
 }
 
 #[test]
@@ -114,10 +131,11 @@ fn no_weight_is_below_1() {
         // The zero loop is an event.
         assert_eq!(short(&s), (1, 0, vec![], 0x3));
         let row = run(&s, Lent::default()).unwrap();
-        let lines = ["ORDER 2 1 2 1 1 1 3", "EVENTS 1", "PATHS 0", "CRC 0x3"];
+        let lines = ["ORDER 2 1 2 1 1 1 3", "EVENTS 1", "PATHS 0", "CRC 0x3 1"];
         assert_eq!(row.to_string(), lines.join("\n"));
+        // Given, it was compared with nobody.
         let of_one = row::row(&s, Lent::default(), Some(0x3), Method::Both);
-        assert_eq!(of_one, Ok(row));
+        assert_eq!(of_one, Ok(Row { shared: 0, ..row }));
     }
 }
 
@@ -126,8 +144,8 @@ fn generators_that_share_a_factor() {
     let refused = |v, length, generators: &[u64]| {
         Order::new(Code::of(Kind::TailBiting, v, length, generators), 1, 1).err()
     };
-    assert_eq!(refused(1, 2, &[3, 3]), Some(Refusal::No(16)));
-    assert_eq!(refused(2, 2, &[5, 3]), Some(Refusal::No(16)));
+    assert_eq!(refused(1, 2, &[3, 3]), Some(Refusal(16)));
+    assert_eq!(refused(2, 2, &[5, 3]), Some(Refusal(16)));
     assert_eq!(refused(3, 70, &[0o13, 0o17]), None);
 }
 
@@ -148,7 +166,7 @@ fn the_longest_and_heaviest_orders_are_answered_at_once() {
     let code = Code::of(Kind::TailBiting, 8, 128, &[0o561, 0o753]);
     let many_events = Order::new(code, 12, 64).unwrap();
     assert_eq!(run(&many_events, Lent::default()), no(13));
-    assert_eq!(run(&order(128, 12, 1, &[1, 3]), Lent::default()), tie(2048));
+    assert_eq!(chosen(&order(128, 12, 1, &[1, 3])), (0x1001, 2048));
 }
 
 #[test]
@@ -162,10 +180,8 @@ fn a_polynomial_given_is_asked_about_before_the_tables() {
     assert_eq!(row(&s, none, Some(0x9), Method::Both), no(11));
     assert_eq!(row(&s, none, Some(0x7), Method::Both), no(13));
     let seven = row(&s, Lent::default(), Some(0x7), Method::Both).unwrap();
-    assert_eq!(
-        (seven.undetected, seven.polynomial),
-        (vec![0, 0, 0, 1, 2], 0x7)
-    );
+    assert!(seven.to_string().ends_with("\nCRC 0x7 0"));
+    assert_eq!(seven.undetected, [0, 0, 0, 1, 2]);
 }
 
 #[test]
@@ -187,9 +203,10 @@ fn code_s_terminated() {
         .collect();
     // The longest has N+v steps.
     assert_eq!(listed, ["0 1 0 0", "0 2 3 1", "0 3 4 3", "0 4 5 7"]);
-    assert_eq!(events::list(&s, 3), Err(Refusal::No(13)));
+    assert_eq!(events::list(&s, 3), Err(Refusal(13)));
     let row = run(&s, Lent::default()).unwrap();
-    assert_eq!((row.events, row.paths, row.polynomial), (4, 6, 0x5));
+    assert_eq!((row.events, row.paths), (4, 6));
+    assert_eq!((row.polynomial, row.shared), (0x5, 1));
     assert_eq!(row.plain, [0, 0, 3, 2, 1]);
     assert_eq!(row.undetected, [0; 5]);
     let with = |events, paths| run(&s, Lent { events, paths });
@@ -215,5 +232,5 @@ fn the_longest_terminated_orders() {
     let many = terminated(8, 128, 12, 64, &[0o561, 0o753]);
     assert_eq!(run(&many, Lent::default()), no(13));
     let none = terminated(1, 128, 12, 1, &[1, 3]);
-    assert_eq!(run(&none, Lent::default()), tie(2048));
+    assert_eq!(chosen(&none), (0x1001, 2048));
 }

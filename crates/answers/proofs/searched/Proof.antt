@@ -18,20 +18,11 @@ enum-known-a-2 c = search needs
 search-answer-requires-2 : tie.Need-search-answer-requires-2
 search-answer-requires-2 c κs = search needs
 
-enum-known-a-3 : tie.Need-enum-known-a-3
-enum-known-a-3 c = search needs
-
-search-answer-requires-3 : tie.Need-search-answer-requires-3
-search-answer-requires-3 c κs = search needs
-
 returns : tie.Need-returns
 returns c = c .search-answer .ensures ∙ sym (ap ofSearched (c .before .before .a .given .1))
 
 returns-2 : tie.Need-returns-2
 returns-2 c = c .search-answer2 .ensures ∙ sym (ap ofSearched (c .before .before .a2 .given .1))
-
-returns-3 : tie.Need-returns-3
-returns-3 c = c .search-answer3 .ensures ∙ sym (ap ofSearched (c .before .before .a3 .given .1))
 
 pub searched-spec : {M : Type 1} → statement M
 searched-spec =
@@ -41,8 +32,5 @@ searched-spec =
     search-answer-requires
     enum-known-a-2
     search-answer-requires-2
-    enum-known-a-3
-    search-answer-requires-3
     returns
-    returns-2
-    returns-3)
+    returns-2)

@@ -64,9 +64,8 @@ ofListed (L.Paths e p) = record { refusal = 0; events = e; paths = p }
 ofListed (L.Refused k) = record { refusal = k; events = 0; paths = 0 }
 
 abbrev pub ofSearched : Searched → SearchAnswer
-ofSearched (Q.Found e k p) = record { refusal = 0; events = e; paths = k; polynomial = p; left = 0 }
-ofSearched (Q.Refused k) = record { refusal = k; events = 0; paths = 0; polynomial = 0; left = 0 }
-ofSearched (Q.Tied left) = record { refusal = 15; events = 0; paths = 0; polynomial = 0; left = left }
+ofSearched (Q.Found e k p s) = record { refusal = 0; events = e; paths = k; polynomial = p; shared = s }
+ofSearched (Q.Refused k) = record { refusal = k; events = 0; paths = 0; polynomial = 0; shared = 0 }
 
 abbrev pub ofReading : Reading → OrderAnswer
 ofReading (R.Order o) = record { refusal = 0; order = o }

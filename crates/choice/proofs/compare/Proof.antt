@@ -113,7 +113,7 @@ verdict-at : (c : Counted)
 verdict-at c =
     let l = at c in
     let asked = start l .pre in
-    let h = c .before .before .before .before .loop-test .taken in
+    let h : l .loop .j < start l .args .entries = omega (arith, c .before .before .before .before .loop-test .taken) in
     verdict (asked .choose .readable) (divisor l) (l .loop .j) (l .before .check-table .ensures) (l .loop .inv .placed) h
     (best-length asked (l .loop .k)) (l .loop .inv .agree) (met-limit asked (met l) (l .loop .j) h) (c .count-up-to .ensures)
 
@@ -152,7 +152,7 @@ shared-slice-read-next : Here tie.Need-shared-slice-read-next
 shared-slice-read-next c = omega (arith, start (c .before .before) .pre .choose .readable .weights)
 
 add-next : Here tie.Need-add-next
-add-next c = omega (arith, inside (c .before .before) (c .before .loop-test .taken))
+add-next c = omega (arith, inside (c .before .before) (omega (arith, c .before .loop-test .taken)))
 
 mul-best : Here tie.Need-mul-best
 mul-best c = omega (arith, start (c .before .before) .pre .choose .readable .weights)
@@ -165,7 +165,7 @@ count-up-to-requires c κs =
     let l = c .before .before .before .before in
     record {
       ordered = omega arith;
-      inside = inside l (c .before .before .before .loop-test .taken);
+      inside = inside l (omega (arith, c .before .before .before .loop-test .taken));
       at-most-12 = start l .pre .choose .degree .at-most-12;
     }
 

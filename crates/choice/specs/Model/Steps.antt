@@ -3,30 +3,17 @@
 -- Assumes nothing.
 use Prim.Native.Nat.{ℕ, zero, suc, _+_, _-_, _^_, _≤_, _<_}
 use mathlib.Core.Path.{_≡_}
-use mathlib.Core.Bool.{Bool, not, true, false}
+use mathlib.Core.Bool.{Bool, true, false}
 use mathlib.Core.List.{List, [], _∷_, _++_, map}
 use lib.ListN.{length, getD, take, drop}
-use Rattle.lists.specs.Lists.{upFrom, filter, any, padded}
+use Rattle.lists.specs.Lists.{upFrom, filter, padded}
 use Rattle.undetected.specs.Model.Steps.{dividedCounts, Readable}
-use Rattle.choice.specs.Choice.{candidates, fewer}
+use Rattle.choice.specs.Choice.{candidates, unbettered, best, firstOf}
 use Rattle.choice.specs.declared.Outcome.{Outcome}
-
--- no member of the list betters p, whatever is counted
-unfoldable pub unbettered : (ℕ → List ℕ) → List ℕ → ℕ → Bool
-unbettered counts ps p = not (any (λ q. fewer (counts q) (counts p)) ps)
-
--- the members that no other betters
-unfoldable pub bestBy : (ℕ → List ℕ) → List ℕ → List ℕ
-bestBy counts ps = filter (unbettered counts ps) ps
-
--- the first member, 0 of none
-unfoldable pub firstOf : List ℕ → ℕ
-firstOf [] = 0
-firstOf (p ∷ ps) = p
 
 -- the candidates of degree m left by the counts over a table
 unfoldable pub leftOver : ℕ → List ℕ → List ℕ → ℕ → List ℕ
-leftOver m table plain entries = bestBy (dividedCounts m table plain entries) (candidates m)
+leftOver m table plain entries = best (dividedCounts m table plain entries) (candidates m)
 
 -- a flag for each candidate of degree m, up where it is left; flags that no candidate has stay up
 unfoldable pub flagsLeft : ℕ → (ℕ → List ℕ) → List Bool
@@ -54,7 +41,7 @@ LeftAlive m entries table plain before after alive =
 
 -- how many are left, the first of them, and its counts at the beginning of the undetected list
 pub record Chose (m entries : ℕ) (table plain before after : List ℕ) (r : Outcome) : Type 0 where
-  pub how-many : r .left ≡ length (leftOver m table plain entries)
+  pub how-many : r .shared ≡ length (leftOver m table plain entries)
   pub first : r .polynomial ≡ firstOf (leftOver m table plain entries)
   pub listed : after ≡ laid (dividedCounts m table plain entries (firstOf (leftOver m table plain entries))) before
 

@@ -18,7 +18,7 @@ returns : tie.Need-returns
 returns c =
     let call = c .before .before .before in
     let p = call .before .before .before .pre in
-    refusal-shown _ _ _ _ (call .write-refusal .result) _ p (call .write-refusal .ensures) (c .size-of .ensures)
+    refusal-shown _ _ _ (call .write-refusal .result) _ p (call .write-refusal .ensures) (c .size-of .ensures)
 
 pub print-refusal-spec : {M : Type 1} → statement M
 print-refusal-spec =

@@ -21,12 +21,6 @@ enum-known-a-2 c = search needs
 print-refusal-requires : tie.Need-print-refusal-requires
 print-refusal-requires c κs = search needs
 
-enum-known-a-3 : tie.Need-enum-known-a-3
-enum-known-a-3 c = search needs
-
-print-refusal-requires-2 : tie.Need-print-refusal-requires-2
-print-refusal-requires-2 c κs = search needs
-
 same-length : tie.Need-same-length
 same-length c = search needs
 
@@ -37,7 +31,7 @@ returns c =
     let found = row .before .before .before in
     let p = found .before .before .before .before .before .pre in
     told _ _ _ _ _ _ _ _ (found .a .given .1)
-    (row-shown _ _ _ _ _ _ _ _ (row .write-row .result) _ p (row .write-row .ensures) (c .size-of .ensures))
+    (row-shown _ _ _ _ _ _ _ _ _ (row .write-row .result) _ p (row .write-row .ensures) (c .size-of .ensures))
 
 same-length-2 : tie.Need-same-length-2
 same-length-2 c = search needs
@@ -45,13 +39,6 @@ same-length-2 c = search needs
 returns-2 : tie.Need-returns-2
 unfolding printedRow
 returns-2 c = told _ _ _ _ _ _ _ _ (c .before .before .before .before .before .a2 .given .1) (c .before .before .print-refusal .ensures)
-
-same-length-3 : tie.Need-same-length-3
-same-length-3 c = search needs
-
-returns-3 : tie.Need-returns-3
-unfolding printedRow
-returns-3 c = told _ _ _ _ _ _ _ _ (c .before .before .before .before .before .a3 .given .1) (c .before .before .print-refusal2 .ensures)
 
 pub print-searched-spec : {M : Type 1} → statement M
 print-searched-spec =
@@ -62,11 +49,7 @@ print-searched-spec =
     size-of-requires
     enum-known-a-2
     print-refusal-requires
-    enum-known-a-3
-    print-refusal-requires-2
     same-length
     returns
     same-length-2
-    returns-2
-    same-length-3
-    returns-3)
+    returns-2)

@@ -14,8 +14,8 @@ enum-told c = search needs
 best-of-requires : tie.Need-best-of-requires
 best-of-requires c κs = rw (c .before .before .before .counted-weights .ensures) (c .before .before .before .before .before .before .before .pre .choose)
 
-answer-requires : tie.Need-answer-requires
-answer-requires c κs = search needs
+found-requires : tie.Need-found-requires
+found-requires c κs = search needs
 
 enum-known-job : tie.Need-enum-known-job
 enum-known-job c = search needs
@@ -34,8 +34,8 @@ counts-of-requires c κs =
       counts = rw (c .before .before .before .before .counted-weights .ensures) (asked .choose .counts);
     }
 
-found-requires : tie.Need-found-requires
-found-requires c κs = search needs
+found-requires-2 : tie.Need-found-requires-2
+found-requires-2 c κs = search needs
 
 same-length : tie.Need-same-length
 same-length c = search needs
@@ -44,7 +44,7 @@ returns : tie.Need-returns
 unfolding Finished
 returns c =
     let chose = c .before .before .before .best-of in
-    rw (c .before .before .before .before .before .enum-told .given .1) (chose .result, rw (c .before .before .before .before .before .before .before .counted-weights .ensures) at (chose .ensures), c .answer .ensures)
+    rw (c .before .before .before .before .before .enum-told .given .1) (chose .result, rw (c .before .before .before .before .before .before .before .counted-weights .ensures) at (chose .ensures), c .found .ensures)
 
 same-length-2 : tie.Need-same-length-2
 same-length-2 c = search needs
@@ -52,7 +52,7 @@ same-length-2 c = search needs
 returns-2 : tie.Need-returns-2
 unfolding Finished
 returns-2 c =
-    rw (c .before .before .before .before .before .before .job .given .1) (rw (c .before .before .before .before .before .before .before .before .counted-weights .ensures) at (c .before .before .before .counts-of .ensures), c .found .ensures)
+    rw (c .before .before .before .before .before .before .job .given .1) (rw (c .before .before .before .before .before .before .before .before .counted-weights .ensures) at (c .before .before .before .counts-of .ensures), c .found2 .ensures)
 
 pub finish-spec : {M : Type 1} → statement M
 finish-spec =
@@ -61,10 +61,10 @@ finish-spec =
     counted-weights-requires
     enum-told
     best-of-requires
-    answer-requires
+    found-requires
     enum-known-job
     counts-of-requires
-    found-requires
+    found-requires-2
     same-length
     returns
     same-length-2

@@ -12,18 +12,11 @@ enum-known-a c = search needs
 enum-known-a-2 : tie.Need-enum-known-a-2
 enum-known-a-2 c = search needs
 
-enum-known-a-3 : tie.Need-enum-known-a-3
-enum-known-a-3 c = search needs
-
 returns : tie.Need-returns
 returns c = sym (ap listedOf (c .before .a .given .1))
 
 returns-2 : tie.Need-returns-2
 returns-2 c = sym (ap listedOf (c .before .a2 .given .1))
 
-returns-3 : tie.Need-returns-3
-returns-3 c = sym (ap listedOf (c .before .a3 .given .1))
-
 pub listed-of-spec : {M : Type 1} → statement M
-listed-of-spec =
-    tie.close (tie.spec enum-known-a enum-known-a-2 enum-known-a-3 returns returns-2 returns-3)
+listed-of-spec = tie.close (tie.spec enum-known-a enum-known-a-2 returns returns-2)

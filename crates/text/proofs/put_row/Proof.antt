@@ -4,8 +4,9 @@ use native.Mathlib.Omega.{arith}
 use mathlib.Core.Path.{ap}
 use mathlib.Core.List.{flatMap}
 use Rattle.lists.specs.Lists.{upFrom}
-use Rattle.text.specs.Text.{wEVENTS, wPATHS, countLine, rowText}
-use Rattle.text.proofs.Puts.{put-as, put-most, joined}
+use Rattle.lines.specs.Lines.{wEVENTS, wPATHS, countLine}
+use Rattle.text.specs.Text.{rowText}
+use Rattle.lines.proofs.Puts.{put-as, put-most, joined}
 use Rattle.order.specs.Answers.{orderIn}
 use borrow.Author.Needs.{needs}
 use Rattle.text.proofs.put_row.Statement.{statement}

@@ -9,7 +9,7 @@ use Rattle.text.proofs.write_refusal.Statement.{statement}
 use Rattle.text.proofs.write_refusal.Tie as tie
 
 returns : tie.Need-returns
-returns c = let a = c .before .before .args in refusal-no-room (a .number) (a .left) (a .buffer .now) (c .if1 .taken)
+returns c = let a = c .before .before .args in refusal-no-room (a .number) (a .buffer .now) (c .if1 .taken)
 
 clear-bytes-requires : tie.Need-clear-bytes-requires
 clear-bytes-requires c κs = search needs
@@ -26,7 +26,7 @@ returns-2 c =
     let clear = c .before .before .before .before .before .before in
     let a = clear .before .before .before .before .args in
     let room = clear .before .before .if1 .left in
-    let text = refusalText (a .number) (a .left) in
+    let text = refusalText (a .number) in
     written-as _ text (a .buffer .now) (refusal-room (a .buffer .now) room) room (clear .clear-bytes .ensures)
     (c .before .before .put-refusal .ensures)
 

@@ -52,7 +52,7 @@ returns-2 c =
     let clear = c .before .before .before .before .before .before in
     let asked = clear .before .before in
     let a = start asked .args in
-    let text = rowText (orderIn (a .o)) (a .events) (a .paths) (a .polynomial) (a .plain .now) (a .undetected .now) in
+    let text = rowText (orderIn (a .o)) (a .events) (a .paths) (a .polynomial) (a .shared) (a .plain .now) (a .undetected .now) in
     let none = sym (asked .if1 .left) ∙ row-asked (a .o) _ _ _ _ (asked .before .ask-row .ensures) in
     written-as _ text (a .buffer .now) none (accepted asked .bytes) (clear .clear-bytes .ensures) (c .before .before .put-row .ensures)
 

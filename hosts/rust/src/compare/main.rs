@@ -124,10 +124,7 @@ fn tallied(families: impl IntoIterator<Item = (Family, u64)>) -> (u64, u64) {
 
 /// The second tool's refusal as a number.
 fn number(refusal: Refusal) -> u64 {
-    match refusal {
-        Refusal::No(number) => u64::from(number),
-        Refusal::Tie(_) => 15,
-    }
+    u64::from(refusal.0)
 }
 
 /// The struct that the library must answer: a refusal alone, or the values.

@@ -2,13 +2,14 @@
 //! search is lent what `dso` lends, and the text of the row or the refusal is
 //! compared with what the second tool prints for the same bytes.
 
+use crate::number;
 use crate::random::Random;
 use crate::records;
 use crate::searched::Asked;
 use crate::tally::Tally;
 use dohvrin::{Quote, Tables};
 use dso_ref::row::row;
-use dso_ref::{Failure, Lent, Method, Order};
+use dso_ref::{Failure, Lent, Method, Order, Refusal, Row};
 
 /// The greatest length at which the second tool takes all words too.
 const SHORT: usize = 10;
@@ -18,20 +19,26 @@ const WITHOUT_COUNTS: &str = "without counts";
 
 pub fn orders(inputs: u64) -> Tally {
     let mut random = Random::new(0x08DE85);
-    let asked = &[1, 2, 3, 4, 5, 6, 7, 8, 9, 16, 13, 14, 15];
-    let mut tally = Tally::of_links("orders by record", asked).with_kind(WITHOUT_COUNTS);
+    let asked = &[1, 2, 3, 4, 5, 6, 7, 8, 9, 16, 13, 14];
+    let mut tally = Tally::of_links("orders by record", asked)
+        .with_kind(WITHOUT_COUNTS)
+        .with_shared();
     // The same for every order in turn: they hold what the last one left.
     let mut tables = lend(Lent::default());
     for _ in 0..inputs {
         let bytes = draw(&mut random);
         let (bytes, size) = records::damaged(&mut random, bytes);
         let bytes = &bytes[..size];
-        let (refusal, expected) = second(bytes);
-        let text = answer(&mut tables, bytes, Asked::Best);
-        if refusal == 0 && !expected.contains("\nA ") {
-            tally.count_kind(WITHOUT_COUNTS);
-        }
+        let row = second(bytes);
         let version = records::version_in(bytes);
+        if let Ok(row) = &row {
+            count_kinds(&mut tally, version, row);
+        }
+        let (refusal, expected) = match row {
+            Ok(row) => (0, format!("{row}\n")),
+            Err(no) => (number(no), format!("{no}\n")),
+        };
+        let text = answer(&mut tables, bytes, Asked::Best);
         tally.count_of(version, refusal, text == expected, || {
             let shown = &bytes[..size.min(40)];
             format!("{shown:02X?} of {size}: library {text:?}, second tool {expected:?}")
@@ -40,8 +47,15 @@ pub fn orders(inputs: u64) -> Tally {
     tally
 }
 
-/// The number of the second tool's refusal, and what it prints.
-fn second(bytes: &[u8]) -> (u64, String) {
+fn count_kinds(tally: &mut Tally, version: u64, row: &Row) {
+    if row.plain.is_empty() {
+        tally.count_kind(WITHOUT_COUNTS);
+    }
+    tally.count_shared(version, row.shared as u64);
+}
+
+/// What the second tool answers.
+fn second(bytes: &[u8]) -> Result<Row, Refusal> {
     let answer = Order::from_record(bytes)
         .map_err(Failure::Refused)
         .and_then(|order| {
@@ -51,11 +65,10 @@ fn second(bytes: &[u8]) -> (u64, String) {
             };
             row(&order, Lent::default(), None, method)
         });
-    match answer {
-        Ok(row) => (0, format!("{row}\n")),
-        Err(Failure::Refused(no)) => (crate::number(no.clone()), format!("{no}\n")),
-        Err(failure) => panic!("{bytes:02X?}: {failure:?}"),
-    }
+    answer.map_err(|failure| match failure {
+        Failure::Refused(no) => no,
+        _ => panic!("{bytes:02X?}: {failure:?}"),
+    })
 }
 
 /// Tables of these sizes.

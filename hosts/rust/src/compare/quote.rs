@@ -23,7 +23,8 @@ const LONGER: &str = "with longer events in the table";
 
 /// Any orders and lengths, right and damaged.
 pub fn quote(inputs: u64) -> Tally {
-    let tally = Tally::new("quote", &[2, 3, 4, 5, 6, 7, 8, 9, 16, 10, 13, 14, 15]);
+    let asked = &[2, 3, 4, 5, 6, 7, 8, 9, 16, 10, 13, 14];
+    let tally = Tally::new("quote", asked).with_shared();
     any(inputs, tally, 0x9807E, |random, call| {
         // Most of the right ones are for the kind of link that has quotes.
         if Link::of(call.input.version).is_some() && random.within(0, 7) > 0 {
@@ -54,9 +55,9 @@ fn draw_length(random: &mut Random, call: &Call) -> u64 {
 /// quote: the second tool takes all words of each one by one.
 pub fn small_tables(orders: u64) -> Tally {
     let mut random = Random::new(0x5A11D);
-    let asked = &[2, 5, 6, 10, 13, 14, 15];
-    let mut tally = Tally::new("small quotes", asked)
+    let mut tally = Tally::new("small quotes", &[2, 5, 6, 10, 13, 14])
         .with_kind(LONGER)
+        .with_shared()
         .with_lists();
     let mut done = 0;
     while done < orders {
@@ -122,8 +123,7 @@ fn every_size(
 
 fn compare_quote(tally: &mut Tally, call: &Call, tables: &Tables, best: &Best) {
     let expected = within(call, tables, best);
-    let accepted = expected.is_ok() && best.who.len() == 1;
-    if accepted && tables.told < tables.events.len() {
+    if expected.is_ok() && tables.told < tables.events.len() {
         tally.count_kind(LONGER);
     }
     compare(tally, call, expected);
@@ -156,7 +156,9 @@ fn sizes(random: &mut Random, tables: &Tables, full: Sizes) -> Vec<Sizes> {
 /// Longer words, up to 128 bits, at some of their shorter lengths.
 pub fn long_tables(orders: u64) -> Tally {
     let mut random = Random::new(0x107613);
-    let mut tally = Tally::new("long quotes", &[13, 14, 15]).with_kind(LONGER);
+    let mut tally = Tally::new("long quotes", &[13, 14])
+        .with_kind(LONGER)
+        .with_shared();
     let mut done = 0;
     while done < orders {
         let mut input = codes::right(&mut random);

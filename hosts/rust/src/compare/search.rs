@@ -12,10 +12,10 @@ use crate::searched::{right_polynomial, wrong_polynomial};
 use crate::tally::Tally;
 use crate::{number, size};
 use dohvrin::{Event, Link, Listed, WORK};
-use dso_ref::search::Counter;
+use dso_ref::search::{Best, Counter};
 use dso_ref::table::Table;
 use dso_ref::words::Words;
-use dso_ref::{events, listing};
+use dso_ref::{events, listing, poly};
 
 /// The greatest degree whose candidates the second tool counts by its table too,
 /// of small orders.
@@ -25,7 +25,8 @@ const LONG_TABLES: usize = 1 << 15;
 
 /// Any orders, right and damaged, of any length.
 pub fn search(inputs: u64) -> Tally {
-    let tally = Tally::of_links("search", &[2, 3, 4, 5, 6, 7, 8, 9, 16, 10, 13, 14, 15]);
+    let asked = &[2, 3, 4, 5, 6, 7, 8, 9, 16, 10, 13, 14];
+    let tally = Tally::of_links("search", asked).with_shared();
     any(inputs, tally, 0x5EA8C4, |_, _| {})
 }
 
@@ -87,8 +88,9 @@ pub fn any(inputs: u64, tally: Tally, seed: u64, ask: impl Fn(&mut Random, &mut 
 /// one short, empty, odd, larger, far larger.
 pub fn small_tables(orders: u64) -> Tally {
     let mut random = Random::new(0x5A11C);
-    let mut tally = Tally::of_links("small searches and counts", &[10, 11, 13, 14, 15])
+    let mut tally = Tally::of_links("small searches and counts", &[10, 11, 13, 14])
         .with_kind("orders of N = v")
+        .with_shared()
         .with_lists();
     let mut done = 0;
     while done < orders {
@@ -138,7 +140,7 @@ pub fn small_tables(orders: u64) -> Tally {
 /// Longer words, which the second tool counts by its table for every candidate.
 pub fn long_tables(orders: u64) -> Tally {
     let mut random = Random::new(11);
-    let mut tally = Tally::of_links("long searches and counts", &[13, 14, 15]);
+    let mut tally = Tally::of_links("long searches and counts", &[13, 14]).with_shared();
     let mut done = 0;
     while done < orders {
         let mut input = codes::right(&mut random);
@@ -185,28 +187,52 @@ pub fn large_tables(_: u64) -> Tally {
     for ((link, events, paths), polynomial) in TABLE_1.into_iter().zip([0x63, 0x43]) {
         let input = Input::of(link, &[0o13, 0o17], 3, 70);
         let tables = listed(input, 18, events, paths);
-        large(&mut tally, &tables, 6, 18, polynomial);
+        large(&mut tally, &tables, 6, polynomial);
     }
-    // The terminated one has no best polynomial: 89 detect all.
-    let (link, events, paths) = TABLE_2[0];
-    let input = Input::of(link, &[0o561, 0o753], 8, 76);
-    let tables = listed(input, 21, events, paths);
-    large(&mut tally, &tables, 12, 21, 0x1565);
+    let table_2 = |(link, events, paths)| {
+        let input = Input::of(link, &[0o561, 0o753], 8, 76);
+        listed(input, 21, events, paths)
+    };
+    let [tail_biting, terminated] = TABLE_2;
+    large(&mut tally, &table_2(tail_biting), 12, 0x1565);
+    large_shared(&mut tally, &table_2(terminated), 12, 89);
     tally
 }
 
-fn large(tally: &mut Tally, tables: &Tables, m: u64, d: u64, polynomial: u64) {
-    let mut call = Call {
+/// A call for the best polynomial in tables that are exactly full.
+fn search_in(tables: &Tables, m: u64) -> Call {
+    Call {
         input: tables.input,
         m,
-        d,
-        asked: Asked::Of(polynomial),
+        d: tables.d,
+        asked: Asked::Best,
         lent: full(tables),
+    }
+}
+
+/// So many detect all, and nobody betters that: the second tool's division says
+/// who they are.
+fn large_shared(tally: &mut Tally, tables: &Tables, m: u64, shared: usize) {
+    let call = search_in(tables, m);
+    let detects_all = |&p: &u64| !tables.words.iter().any(|&word| poly::divides(p, word));
+    let best = Best {
+        counts: vec![0; tables.counts.len()],
+        who: poly::candidates(size(m)).filter(detects_all).collect(),
+    };
+    assert_eq!(best.who.len(), shared, "{call:?}");
+    compare(tally, &call, Ok((tables, &best)));
+}
+
+/// One is best.
+fn large(tally: &mut Tally, tables: &Tables, m: u64, polynomial: u64) {
+    let mut call = Call {
+        asked: Asked::Of(polynomial),
+        ..search_in(tables, m)
     };
     let mut table = Table::new(&call.order().expect("a right order"));
     let counts = tables.counts.iter().map(|&count| u128::from(count));
     assert!(
-        counts.eq(table.plain(size(d) - 1)),
+        counts.eq(table.plain(tables.counts.len())),
         "{call:?}: plain counts"
     );
     let best = call.best(&mut table);

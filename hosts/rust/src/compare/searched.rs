@@ -9,7 +9,7 @@ use crate::random::Random;
 use crate::tally::Tally;
 use crate::{number, size};
 use dohvrin::calls::{self, Row};
-use dohvrin::{AnyOrder, Found, Listed, Searched};
+use dohvrin::{AnyOrder, Found, Listed};
 use dso_ref::quote::Quote;
 use dso_ref::search::{best, Best, Counter};
 use dso_ref::{events, questions, Order, Refusal};
@@ -90,6 +90,15 @@ impl Call {
         }
     }
 
+    /// How many candidates have the best counts: 0 where the polynomial is given,
+    /// and nobody is compared with it.
+    fn shared(&self, best: &Best) -> u64 {
+        match self.asked {
+            Asked::Of(_) => 0,
+            _ => best.who.len() as u64,
+        }
+    }
+
     /// The best counts, or those of the call's polynomial.
     pub fn best(&self, counter: &mut impl Counter) -> Best {
         let plain = counter.plain(size(self.d) - 1);
@@ -118,14 +127,14 @@ pub fn within<'a>(call: &Call, tables: &'a Tables, best: &'a Best) -> Expected<'
 
 /// The call as C sees it, then the safe function.
 pub fn compare(tally: &mut Tally, call: &Call, expected: Expected) {
-    let answer = answer_of(expected);
+    let answer = answer_of(call, expected);
     let plain = match answer.refusal {
-        0 => Ok(Searched::Found(Found {
+        0 => Ok(Found {
             events: size(answer.events),
             paths: size(answer.paths),
             polynomial: answer.polynomial,
-        })),
-        15 => Ok(Searched::Tied(answer.left)),
+            shared: answer.shared,
+        }),
         number => Err(number),
     };
     let mut lent = Lent::new(call.lent);
@@ -135,6 +144,7 @@ pub fn compare(tally: &mut Tally, call: &Call, expected: Expected) {
     let same = raw == answer && safe == plain && raw_left && safe_left && as_fresh;
     let lists = [call.lent.listing.counts, call.lent.undetected];
     tally.count_lists(answer.refusal, call.d, &lists);
+    tally.count_shared(call.input.version, answer.shared);
     tally.count_of(call.input.version, answer.refusal, same, || {
         format!(
             "{call:?}: library {raw:?} {safe:?}, second tool {answer:?}, \
@@ -144,25 +154,19 @@ pub fn compare(tally: &mut Tally, call: &Call, expected: Expected) {
 }
 
 /// The answer of a search or a quote; that of a count says as much, but for the
-/// polynomial.
-fn answer_of(expected: Expected) -> Row {
+/// polynomial and how many share its counts.
+fn answer_of(call: &Call, expected: Expected) -> Row {
     match expected {
         Err(refusal) => Row {
             refusal,
             ..Row::default()
         },
-        Ok((tables, best)) => match best.who[..] {
-            [polynomial] => Row {
-                events: tables.told as u64,
-                paths: tables.words.len() as u64,
-                polynomial,
-                ..Row::default()
-            },
-            _ => Row {
-                refusal: 15,
-                left: best.who.len() as u64,
-                ..Row::default()
-            },
+        Ok((tables, best)) => Row {
+            refusal: 0,
+            events: tables.told as u64,
+            paths: tables.words.len() as u64,
+            polynomial: best.smallest(),
+            shared: call.shared(best),
         },
     }
 }
@@ -203,7 +207,7 @@ impl Lent {
                     events: answer.events,
                     paths: answer.paths,
                     polynomial: if answer.refusal == 0 { polynomial } else { 0 },
-                    left: 0,
+                    shared: 0,
                 }
             }
         }
@@ -213,7 +217,7 @@ impl Lent {
     /// answers and leaves the same; the event table is another one. It need not
     /// where the quote was refused by 13 or before.
     fn is_fresh(&self, call: &Call, quoted: Row) -> bool {
-        let (Asked::Quote(bits), 0 | 14 | 15) = (call.asked, quoted.refusal) else {
+        let (Asked::Quote(bits), 0 | 14) = (call.asked, quoted.refusal) else {
             return true;
         };
         let mut fresh = Lent::new(call.lent);
@@ -230,19 +234,18 @@ impl Lent {
             && ours.work == theirs.work
     }
 
-    fn safe(mut self, call: &Call, expected: Expected) -> (Result<Searched, u64>, bool) {
+    fn safe(mut self, call: &Call, expected: Expected) -> (Result<Found, u64>, bool) {
         let order = call.given();
         let answer = match call.asked {
             Asked::Best => dohvrin::search(order, self.lent()),
             Asked::Quote(bits) => dohvrin::quote(order, bits, self.lent()),
             Asked::Of(polynomial) => {
                 let answer = dohvrin::count(order, polynomial, self.lent());
-                answer.map(|Listed { events, paths }| {
-                    Searched::Found(Found {
-                        events,
-                        paths,
-                        polynomial,
-                    })
+                answer.map(|Listed { events, paths }| Found {
+                    events,
+                    paths,
+                    polynomial,
+                    shared: 0,
                 })
             }
         };
@@ -299,8 +302,6 @@ pub fn draw(random: &mut Random) -> Call {
         0 => random.pick(&[0, 13, 14, 64, 65, 128]),
         1 => random.huge(most),
         2 => input.bits.min(12),
-        // Where there is no weight, only a single candidate is best.
-        3..=15 if d == 1 => 1,
         _ => random.within(1, most),
     };
     let undetected = draw_counts(random, d, 24);

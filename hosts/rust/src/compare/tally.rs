@@ -14,6 +14,12 @@ const EMPTY_LISTS: &str = "with empty lists";
 const EMPTY_LIST: &str = "with an empty list";
 const SHORT_LIST: &str = "with a list one short";
 
+/// Kinds of rows whose counts several candidates share.
+const SHARED: [(Link, &str); 2] = [
+    (Link::TailBiting, "shared, tail-biting"),
+    (Link::Terminated, "shared, terminated"),
+];
+
 /// How many inputs, and how many of them of a terminated link.
 #[derive(Clone, Copy, Default)]
 struct Inputs {
@@ -122,6 +128,22 @@ impl Tally {
                     self.count_kind(kind);
                 }
             }
+        }
+    }
+
+    /// Of the rows some must have counts that several candidates share: on either
+    /// kind of link, where the inputs have one.
+    pub fn with_shared(self) -> Tally {
+        let kinds = if self.links { SHARED.len() } else { 1 };
+        let names = SHARED[..kinds].iter().map(|(_, name)| name);
+        names.fold(self, |tally, name| tally.with_kind(name))
+    }
+
+    /// Counts these kinds of one row.
+    pub fn count_shared(&mut self, version: u64, shared: u64) {
+        let of_version = SHARED.iter().find(|(link, _)| link.version() == version);
+        if let Some((_, name)) = of_version.filter(|_| shared > 1) {
+            self.count_kind(name);
         }
     }
 

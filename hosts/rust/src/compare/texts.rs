@@ -15,23 +15,31 @@ const FILL: u8 = 0xA5;
 const GUARD: u8 = 0x3C;
 const GUARDS: usize = 64;
 
-/// What the text of a row is made of: the order; events, paths and polynomial;
-/// both counts.
+/// A number that no call refuses with, and that once had a text of its own.
+const RETIRED: &str = "of number 15";
+
+/// Kinds of rows by how many share the counts.
+const NOBODY: &str = "that nobody was compared with";
+const GREATEST: &str = "that 2^64 - 1 share";
+
+/// What the text of a row is made of: the order; events, paths, polynomial and how
+/// many share its counts; both counts.
 #[derive(Clone, Debug)]
 struct Input {
     order: AnyOrder,
-    found: [u64; 3],
+    found: [u64; 4],
     plain: Vec<u64>,
     undetected: Vec<u64>,
 }
 
 impl Input {
     fn found(&self) -> Found {
-        let [events, paths, polynomial] = self.found;
+        let [events, paths, polynomial, shared] = self.found;
         Found {
             events: size(events),
             paths: size(paths),
             polynomial,
+            shared,
         }
     }
 
@@ -41,7 +49,7 @@ impl Input {
         let numbers = [v, bits, m, d].map(size);
         let d = size(d);
         let generators = first(&self.order.generators, self.order.n);
-        let [events, paths, polynomial] = self.found;
+        let [events, paths, polynomial, shared] = self.found;
         questions::kind(self.order.version).map_err(number)?;
         questions::generator_count(generators.len()).map_err(number)?;
         questions::threshold(d).map_err(number)?;
@@ -62,6 +70,7 @@ impl Input {
             plain: &wide(&self.plain),
             undetected: &wide(&self.undetected),
             polynomial,
+            shared: size(shared),
         };
         Ok(format!("{printed}\n"))
     }
@@ -69,7 +78,10 @@ impl Input {
 
 pub fn row_text(inputs: u64) -> Tally {
     let mut random = Random::new(0x804);
-    let mut tally = Tally::of_links("row_text", &[2, 3, 7, 10]).with_lists();
+    let mut tally = Tally::of_links("row_text", &[2, 3, 7, 10])
+        .with_kind(NOBODY)
+        .with_kind(GREATEST)
+        .with_lists();
     for _ in 0..inputs {
         let i = draw(&mut random);
         let room = draw_room(&mut random);
@@ -77,6 +89,11 @@ pub fn row_text(inputs: u64) -> Tally {
         let refusal = expected.as_ref().err().copied().unwrap_or(0);
         tally.count_lists(refusal, i.order.d, &[i.plain.len(), i.undetected.len()]);
         let (order, found) = (i.order, i.found());
+        match found.shared {
+            0 if refusal == 0 => tally.count_kind(NOBODY),
+            u64::MAX if refusal == 0 => tally.count_kind(GREATEST),
+            _ => {}
+        }
         let (plain, undetected) = (&i.plain, &i.undetected);
         let raw = |text: &mut [u8]| calls::row_text(order, found, plain, undetected, text);
         let safe = |text: &mut [u8]| dohvrin::row_text(order, found, plain, undetected, text);
@@ -90,37 +107,33 @@ pub fn row_text(inputs: u64) -> Tally {
 
 pub fn refusal_text(inputs: u64) -> Tally {
     let mut random = Random::new(0x8EF);
-    let mut tally = Tally::new("refusal_text", &[10]).with_kind("of question 15");
+    let mut tally = Tally::new("refusal_text", &[10]).with_kind(RETIRED);
     for _ in 0..inputs {
         let no = match random.within(0, 3) {
             0 => 15,
             1 => any(&mut random),
             _ => random.within(0, 255),
         };
-        let left = any(&mut random);
         let room = draw_room(&mut random);
         let expected = match room < TEXT {
             true => Err(10),
-            false => Ok(refusal_line(no, left)),
+            false => Ok(refusal_line(no)),
         };
         if no == 15 && expected.is_ok() {
-            tally.count_kind("of question 15");
+            tally.count_kind(RETIRED);
         }
-        let raw = |text: &mut [u8]| calls::refusal_text(no, left, text);
-        let safe = |text: &mut [u8]| dohvrin::refusal_text(no, left, text);
-        compare(&mut tally, 0, room, expected, raw, safe, || {
-            format!("{no} {left}")
-        });
+        let raw = |text: &mut [u8]| calls::refusal_text(no, text);
+        let safe = |text: &mut [u8]| dohvrin::refusal_text(no, text);
+        compare(&mut tally, 0, room, expected, raw, safe, || no.to_string());
     }
     tally
 }
 
 /// The second tool prints numbers of a byte; the others are as plain.
-fn refusal_line(no: u64, left: u64) -> String {
-    match (no, u8::try_from(no)) {
-        (15, _) => format!("{}\n", Refusal::Tie(size(left))),
-        (_, Ok(byte)) => format!("{}\n", Refusal::No(byte)),
-        _ => format!("NO {no}\n"),
+fn refusal_line(no: u64) -> String {
+    match u8::try_from(no) {
+        Ok(byte) => format!("{}\n", Refusal(byte)),
+        Err(_) => format!("NO {no}\n"),
     }
 }
 
@@ -204,7 +217,7 @@ fn draw(random: &mut Random) -> Input {
             d,
             generators,
         },
-        found: [number(random), number(random), number(random)],
+        found: [(); 4].map(|()| number(random)),
         plain,
         undetected,
     }

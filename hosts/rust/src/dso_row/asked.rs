@@ -40,14 +40,6 @@ impl Asked {
 }
 
 impl Wanted {
-    /// The order that the row is for.
-    pub fn order(&self) -> &Order {
-        match self {
-            Wanted::Best(order) | Wanted::Of(_, order) => order,
-            Wanted::Quote(quote) => quote.short(),
-        }
-    }
-
     /// The sizes of the tables that it needs.
     pub fn needed(&self) -> Entries {
         match self {

@@ -2,7 +2,7 @@
 
 use crate::args::Args;
 use crate::jobs::{self, Notes};
-use crate::numbers::{kind_of, Numbers};
+use crate::numbers::{digits, kind_of, Numbers};
 use crate::{put, text_of, Stop};
 use dohvrin::Link;
 use std::fmt;
@@ -11,11 +11,15 @@ use std::fmt;
 /// there.
 const WEIGHT_0: &str = "A 0 0 0";
 
+/// What stood in place of a row of the older form, where several polynomials
+/// share the best counts: how many they are stands after it.
+const NO_CHOICE: &str = "NO 15 ";
+
 /// What is said of a row.
 enum Verdict {
     Same,
-    /// The same without its line of weight 0.
-    Older,
+    /// The same but for what makes it one of the older form.
+    Older(String),
     Differs(String),
 }
 
@@ -23,9 +27,7 @@ impl fmt::Display for Verdict {
     fn fmt(&self, f: &mut fmt::Formatter) -> fmt::Result {
         match self {
             Verdict::Same => f.write_str("the same"),
-            Verdict::Older => {
-                f.write_str("the same, but for the line of weight 0 of the older form")
-            }
+            Verdict::Older(how) => write!(f, "the same, but of the older form: {how}"),
             Verdict::Differs(how) => write!(f, "DIFFERS, {how}"),
         }
     }
@@ -91,13 +93,14 @@ fn verdict(row: &[String], link: Link, lines: impl Fn(&Numbers) -> String) -> Ve
         Ok(numbers) => numbers,
         Err(message) => return Verdict::Differs(format!("it is no order: {message}")),
     };
-    let row = Printed::of(row);
-    let Some(how) = row.unlike(&lines(&numbers)) else {
-        return match row.weight_0 {
-            None => Verdict::Same,
-            Some(_) => Verdict::Older,
-        };
+    let (row, now) = (Printed::of(row), lines(&numbers));
+    let Some(how) = row.unlike(&now) else {
+        return row.form(&now);
     };
+    if let Some(crc) = row.chosen_since(&now) {
+        let hint = format!("it is a refusal of the older form, and the last line is now {crc:?}");
+        return Verdict::Differs(format!("{how}; {hint}"));
+    }
     let other = numbers.for_other_link();
     let hint = match row.unlike(&lines(&other)) {
         None => format!(
@@ -107,6 +110,13 @@ fn verdict(row: &[String], link: Link, lines: impl Fn(&Numbers) -> String) -> Ve
         Some(_) => String::new(),
     };
     Verdict::Differs(how + &hint)
+}
+
+/// The number that a CRC line of the older form lacks, where all before it is
+/// the same as in this line.
+fn lacked<'a>(line: &str, now: &'a str) -> Option<&'a str> {
+    let (before, number) = now.rsplit_once(' ')?;
+    (now.starts_with("CRC ") && line == before).then_some(number)
 }
 
 /// A row as it was printed.
@@ -130,10 +140,38 @@ impl Printed<'_> {
         Printed { lines, weight_0 }
     }
 
-    /// The first line in which it differs from these lines.
+    /// What is said of it, where it is not unlike these lines.
+    fn form(&self, now: &str) -> Verdict {
+        let line = self.weight_0.map(|_| "with a line of weight 0".to_string());
+        let last = self.lines.last().zip(now.lines().last());
+        let number = last.and_then(|(line, now)| lacked(line, now));
+        let number =
+            number.map(|number| format!("without how many share the counts (now {number})"));
+        let older: Vec<String> = line.into_iter().chain(number).collect();
+        match older.is_empty() {
+            true => Verdict::Same,
+            false => Verdict::Older(older.join(", ")),
+        }
+    }
+
+    /// The CRC line of these lines, where it is a refusal for want of a choice.
+    fn chosen_since<'a>(&self, now: &'a str) -> Option<&'a str> {
+        let [_, no] = self.lines[..] else {
+            return None;
+        };
+        digits(no.strip_prefix(NO_CHOICE)?, 10)?;
+        now.lines().last().filter(|line| line.starts_with("CRC "))
+    }
+
+    /// The first line in which it differs from these lines; that a CRC line lacks
+    /// its number is no difference.
     fn unlike(&self, now: &str) -> Option<String> {
         let (row, now) = (&self.lines, now.lines().collect::<Vec<_>>());
-        let at = (0..row.len().max(now.len())).find(|&at| row.get(at) != now.get(at))?;
+        let like = |at: usize| match (row.get(at), now.get(at)) {
+            (Some(line), Some(now)) => line == now || lacked(line, now).is_some(),
+            _ => false,
+        };
+        let at = (0..row.len().max(now.len())).find(|&at| !like(at))?;
         let shown =
             |line: Option<&&str>| line.map_or("nothing".to_string(), |line| format!("{line:?}"));
         Some(format!(

@@ -27,9 +27,10 @@ fn member(line: &[&str], link: Link, counts: &str) -> Option<String> {
         }
         ["EVENTS", events] => format!("\"events\":{events}"),
         ["PATHS", paths] => format!("\"paths\":{paths}"),
-        ["CRC", polynomial] => format!("\"counts\":[{counts}],\"crc\":\"{polynomial}\""),
+        ["CRC", polynomial, shared] => {
+            format!("\"counts\":[{counts}],\"crc\":\"{polynomial}\",\"shared\":{shared}")
+        }
         ["NO", number] => format!("\"refusal\":{number}"),
-        ["NO", number, left] => format!("\"refusal\":{number},\"left\":{left}"),
         _ => return None,
     })
 }

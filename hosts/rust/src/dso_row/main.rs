@@ -78,11 +78,11 @@ fn main() -> ExitCode {
 fn answer(args: &Args) -> Result<(), Stop> {
     match &args.task {
         Task::Help => put(args::HELP.as_bytes())?,
-        Task::Row(source) => each(source, args, |wanted, _| {
+        Task::Row(source) => each(source, args, |wanted| {
             let row = made(wanted, args)?.answer?;
             Ok(put_row(&row.text(), row.order().link(), args.json)?)
         })?,
-        Task::Checklist(source) => each(source, args, |wanted, head| sign(wanted, head, args))?,
+        Task::Checklist(source) => each(source, args, |wanted| sign(wanted, args))?,
         Task::Record(source) => put(&order(source)?.record())?,
         Task::RecordHex(source) => {
             let bytes = order(source)?.record();
@@ -101,7 +101,7 @@ fn answer(args: &Args) -> Result<(), Stop> {
 fn each(
     source: &Source,
     args: &Args,
-    answer: impl Fn(Wanted, &str) -> Result<(), Stop>,
+    answer: impl Fn(Wanted) -> Result<(), Stop>,
 ) -> Result<(), Stop> {
     let numbers = given(source)?;
     for asked in &args.asked {
@@ -110,7 +110,7 @@ fn each(
             _ => format!("{}\n", asked.printed(&numbers)),
         };
         let wanted = asked.of(numbers.any()).map_err(Stop::from);
-        match wanted.and_then(|wanted| answer(wanted, &head)) {
+        match wanted.and_then(&answer) {
             Err(Stop::Refused(refusal)) => refused(&head, refusal, numbers.link(), args.json)?,
             other => other?,
         }
@@ -141,19 +141,15 @@ fn made(wanted: Wanted, args: &Args) -> Result<Made, Stop> {
     jobs::alone(move |notes| desk.row(&wanted, notes))
 }
 
-/// The row, or its tie under this head, and the checklist.
-fn sign(wanted: Wanted, head: &str, args: &Args) -> Result<(), Stop> {
-    let order = wanted.order().clone();
+/// The row and the checklist.
+fn sign(wanted: Wanted, args: &Args) -> Result<(), Stop> {
     let Made { answer, tables, .. } = made(wanted, args)?;
-    match &answer {
-        Ok(row) => put_row(&row.text(), order.link(), false)?,
-        Err(tie @ Refusal::Tie { .. }) => refused(head, *tie, order.link(), false)?,
-        Err(refusal) => return Err(Stop::Refused(*refusal)),
-    }
+    let row = answer?;
+    put_row(&row.text(), row.order().link(), false)?;
     let (points, right) = jobs::alone(move |notes| {
         notes(Note::Now("the checklist".to_string()));
         let mut points = Vec::new();
-        let right = checklist::write(&mut points, &order, &answer, &tables);
+        let right = checklist::write(&mut points, &row, &tables);
         right.map(|right| (points, right))
     })??;
     put(&points)?;

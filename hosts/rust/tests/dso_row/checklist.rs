@@ -1,6 +1,6 @@
 //! The checklist of small codes.
 
-use crate::rows::EXAMPLE;
+use crate::rows::{EXAMPLE, SHARED};
 use crate::run::run;
 
 /// Point 1 of code S, where 0x5 is best.
@@ -42,13 +42,16 @@ fn a_row_and_its_points() {
 }
 
 #[test]
-fn a_tie_has_its_polynomials_named() {
+fn those_that_share_the_best_counts_are_named() {
     let run = run("--checklist 2 1 4 2 5 1 3");
     assert_eq!(run.status, 0);
-    assert!(run.out.starts_with("NO 15 2\n\n1. "));
-    assert!(run
-        .out
-        .ends_with("best by the listed paths: 0x5 0x7, undetected 1 at 4\n"));
+    assert!(run.out.starts_with(&format!("{SHARED}{CODE_S}")));
+    let rivals = "
+4. Rivals, of 2 polynomials
+   best by the listed paths: 0x5, undetected 1 at 4
+   and 1 more with the same counts: 0x7
+";
+    assert!(run.out.ends_with(rivals), "{}", run.out);
 }
 
 #[test]
@@ -77,7 +80,11 @@ fn no_path_at_all() {
     let run = run("--checklist 2 3 20 3 2 13 17");
     assert_eq!(run.status, 0);
     assert!(run.out.contains("all weights: 0 of 0 paths"));
-    assert!(run.out.ends_with("0x9 0xB 0xD 0xF, nothing undetected\n"));
+    let rivals = "
+   best by the listed paths: 0x9, nothing undetected
+   and 3 more with the same counts: 0xB 0xD 0xF
+";
+    assert!(run.out.ends_with(rivals), "{}", run.out);
 }
 
 #[test]

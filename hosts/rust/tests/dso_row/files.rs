@@ -1,6 +1,6 @@
 //! Price lists, and rows that were printed before.
 
-use crate::rows::EXAMPLE;
+use crate::rows::{EXAMPLE, SHARED};
 use crate::run::{file, program, run, run_on};
 
 const ORDERS: &str = "\
@@ -13,7 +13,7 @@ ORDER 2 1 4 2 6 1 3
 
 /// The rows of these orders.
 fn rows() -> String {
-    format!("{EXAMPLE}ORDER 2 1 4 2 5 1 3\nNO 15 2\nORDER 2 1 4 2 0 1 3\nNO 7\n")
+    format!("{EXAMPLE}{SHARED}ORDER 2 1 4 2 0 1 3\nNO 7\n")
 }
 
 #[test]
@@ -28,12 +28,13 @@ fn a_list_as_json_and_of_one_polynomial() {
     let list = run_on("--json --file -", ORDERS.as_bytes()).out;
     let lines: Vec<&str> = list.lines().collect();
     assert_eq!(lines.len(), 3);
-    assert!(lines[0].ends_with("\"crc\":\"0x5\"}"));
+    assert!(lines[0].ends_with("\"crc\":\"0x5\",\"shared\":1}"));
+    assert!(lines[1].ends_with("\"crc\":\"0x5\",\"shared\":2}"));
     let order =
-        r#""order":{"link":"tail-biting","n":2,"v":1,"N":4,"m":2,"d":5,"generators":["1","3"]}"#;
-    assert_eq!(lines[1], format!("{{{order},\"refusal\":15,\"left\":2}}"));
+        r#""order":{"link":"tail-biting","n":2,"v":1,"N":4,"m":2,"d":0,"generators":["1","3"]}"#;
+    assert_eq!(lines[2], format!("{{{order},\"refusal\":7}}"));
     let of = run_on("--of 0x7 --file -", b"2 1 4 2 6 1 3").out;
-    assert_eq!(of.lines().last(), Some("CRC 0x7"));
+    assert_eq!(of.lines().last(), Some("CRC 0x7 0"));
 }
 
 #[test]
@@ -80,11 +81,13 @@ fn a_changed_digit() {
         said,
         format!("row 1, ORDER 2 1 4 2 6 1 3: DIFFERS, {expected}")
     );
-    assert!(changed("0x5", "0x7").ends_with("line 9 of the row is \"CRC 0x7\", now \"CRC 0x5\""));
+    assert!(changed("0x5 1", "0x7 1").ends_with("is \"CRC 0x7 1\", now \"CRC 0x5 1\""));
+    assert!(changed("0x5 1", "0x5 2").ends_with("is \"CRC 0x5 2\", now \"CRC 0x5 1\""));
+    assert!(changed("0x5 1", "0x5 0").ends_with("is \"CRC 0x5 0\", now \"CRC 0x5 1\""));
     assert!(
         changed("PATHS 13\n", "").ends_with("line 3 of the row is \"A 1 0 0\", now \"PATHS 13\"")
     );
-    assert!(changed("CRC 0x5\n", "").ends_with("line 9 of the row is nothing, now \"CRC 0x5\""));
+    assert!(changed("CRC 0x5 1\n", "").ends_with("line 9 of the row is nothing, now \"CRC 0x5 1\""));
     assert!(changed("CRC", "A 6 0 0\nCRC").contains("line 9 of the row is \"A 6 0 0\""));
     assert!(changed("6 1 3", "6 1 03").contains("line 1 of the row"));
     assert!(changed("6 1 3", "6 1 9").ends_with("it is no order: 9: not an octal generator"));
@@ -93,12 +96,13 @@ fn a_changed_digit() {
 
 #[test]
 fn only_the_wrong_row_differs() {
-    let text = rows().replace("NO 15 2", "NO 15 3");
+    let text = rows().replace("CRC 0x5 2", "CRC 0x7 2");
     let run = run_on("--check -", text.as_bytes());
     assert_eq!(run.status, 3);
     let lines: Vec<&str> = run.out.lines().collect();
     assert!(lines[0].ends_with("the same") && lines[2].ends_with("the same"));
-    assert!(lines[1].ends_with("DIFFERS, line 2 of the row is \"NO 15 3\", now \"NO 15 2\""));
+    let how = "DIFFERS, line 8 of the row is \"CRC 0x7 2\", now \"CRC 0x5 2\"";
+    assert!(lines[1].ends_with(how), "{}", lines[1]);
 }
 
 #[test]
@@ -114,7 +118,7 @@ fn an_order_does_not_feel_the_one_before() {
     assert_eq!(list.err, told);
 }
 
-/// Orders of all kinds: long and short in turn, refusals and ties.
+/// Orders of all kinds: long and short in turn, refusals and shared counts.
 fn mixed() -> String {
     (0..40)
         .map(|k| match k % 4 {
@@ -199,10 +203,10 @@ fn what_is_no_list_of_rows() {
         (none.status, none.err.as_str()),
         (2, "dso-row: -, no row in it\n")
     );
-    let alone = run_on("--check -", b"NO 15 2\n");
+    let alone = run_on("--check -", b"NO 14\n");
     assert_eq!(alone.status, 2);
     assert_eq!(
         alone.err,
-        "dso-row: -, \"NO 15 2\": no ORDER line before it\n"
+        "dso-row: -, \"NO 14\": no ORDER line before it\n"
     );
 }

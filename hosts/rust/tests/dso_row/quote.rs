@@ -14,7 +14,7 @@ A 2 0 0
 A 3 4 0
 A 4 3 1
 A 5 0 0
-CRC 0x5
+CRC 0x5 1
 ";
 
 #[test]
@@ -27,6 +27,16 @@ fn the_row_of_code_s() {
     ] {
         let all = (run.status, run.out.as_str(), run.err.as_str());
         assert_eq!(all, (0, ROW, ""));
+    }
+}
+
+#[test]
+fn the_smallest_of_those_that_share_the_best_counts_for_the_length() {
+    let row = "ORDER 2 1 3 2 3 1 3\nEVENTS 2\nPATHS 0\nA 1 0 0\nA 2 0 0\nCRC 0x5 2\n";
+    for arguments in ["--quote 3 2 1 4 2 3 1 3", "2 1 3 2 3 1 3"] {
+        let run = run(arguments);
+        let all = (run.status, run.out.as_str(), run.err.as_str());
+        assert_eq!(all, (0, row, ""), "{arguments}");
     }
 }
 
@@ -114,7 +124,6 @@ fn refusals_are_answers_and_do_not_end_it() {
     }
     assert_eq!(line("--quote 2 2 1 4 2 6 1 3"), "NO 6\n");
     assert_eq!(line("--quote 2 2 3 4 2 6 13 17"), "NO 5\n");
-    assert_eq!(line("--quote 3 2 1 4 2 3 1 3"), "NO 15 2\n");
     assert_eq!(line("--quote 3 2 1 4 2 65 1 3"), "NO 7\n");
     assert_eq!(line("--quote 3 2 1 4 2 6 3 3"), "NO 16\n");
     assert_eq!(line("--terminated --quote 3 2 1 4 2 6 1 3"), "NO 2\n");

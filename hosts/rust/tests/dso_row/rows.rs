@@ -14,7 +14,19 @@ A 2 0 0
 A 3 4 0
 A 4 5 1
 A 5 4 0
-CRC 0x5
+CRC 0x5 1
+";
+
+/// Its order with d = 5, where 0x7 has the same counts.
+pub const SHARED: &str = "\
+ORDER 2 1 4 2 5 1 3
+EVENTS 4
+PATHS 9
+A 1 0 0
+A 2 0 0
+A 3 4 0
+A 4 5 1
+CRC 0x5 2
 ";
 
 pub const RECORD: [u8; 12] = [0, 10, 1, 2, 1, 4, 2, 6, 0, 1, 0, 3];
@@ -27,6 +39,22 @@ fn the_example_of_document_01() {
             (0, EXAMPLE, "")
         );
     }
+}
+
+#[test]
+fn the_smallest_of_those_that_share_the_best_counts() {
+    let run = run("2 1 4 2 5 1 3");
+    let all = (run.status, run.out.as_str(), run.err.as_str());
+    assert_eq!(all, (0, SHARED, ""));
+    let last = |arguments| {
+        let out = crate::run::run(arguments).out;
+        out.lines().last().map(str::to_string)
+    };
+    // No path is below d: all 2^11 of degree 12, and all 8 of degree 4.
+    let expected = Some("CRC 0x1001 2048".to_string());
+    assert_eq!(last("2 3 20 12 2 13 17"), expected);
+    let expected = Some("CRC 0x11 8".to_string());
+    assert_eq!(last("--terminated 2 3 20 4 2 13 17"), expected);
 }
 
 #[test]
@@ -55,7 +83,6 @@ fn refusals_are_answers() {
     refused("--of 0x4 2 2 4 2 6 5 3", "NO 16\n");
     refused("--events 0 --paths 0 2 2 4 2 6 5 3", "NO 16\n");
     refused("--of 0x4 2 1 4 2 6 1 3", "NO 11\n");
-    refused("2 1 4 2 5 1 3", "NO 15 2\n");
 }
 
 #[test]
@@ -77,8 +104,13 @@ fn damaged_records() {
 #[test]
 fn counts_of_one_polynomial() {
     let run = run("--of 0x7 2 1 4 2 6 1 3");
-    let expected = EXAMPLE.replace("A 5 4 0", "A 5 4 2").replace("0x5", "0x7");
+    // Compared with no other, it has the number 0.
+    let expected = EXAMPLE.replace("A 5 4 0", "A 5 4 2");
+    let expected = expected.replace("0x5 1", "0x7 0");
     assert_eq!((run.status, run.out), (0, expected));
+    // And so has the best.
+    let best = crate::run::run("--of 0x5 2 1 4 2 6 1 3").out;
+    assert_eq!(best, EXAMPLE.replace("0x5 1", "0x5 0"));
 }
 
 #[test]
@@ -89,31 +121,38 @@ fn json() {
     let order =
         r#""order":{"link":"tail-biting","n":2,"v":1,"N":4,"m":2,"d":6,"generators":["1","3"]}"#;
     let expected = format!(
-        "{{{order},\"events\":5,\"paths\":13,\"counts\":[{}],\"crc\":\"0x5\"}}\n",
+        "{{{order},\"events\":5,\"paths\":13,\"counts\":[{}],\"crc\":\"0x5\",\"shared\":1}}\n",
         counts.join(",")
     );
     assert_eq!(run("--json 2 1 4 2 6 1 3"), expected);
-    assert_eq!(run("2 1 4 2 5 1 3 --json"), "{\"refusal\":15,\"left\":2}\n");
+    let of = run("--json --of 0x5 2 1 4 2 6 1 3");
+    assert_eq!(of, expected.replace("\"shared\":1", "\"shared\":0"));
+    let order = order.replace("\"d\":6", "\"d\":5");
+    let expected = format!(
+        "{{{order},\"events\":4,\"paths\":9,\"counts\":[{}],\"crc\":\"0x5\",\"shared\":2}}\n",
+        counts[..4].join(",")
+    );
+    assert_eq!(run("2 1 4 2 5 1 3 --json"), expected);
     assert_eq!(run("--json 2 1 4 2 0 1 3"), "{\"refusal\":7}\n");
     assert_eq!(run("--json 2 1 4 2 6 3 3"), "{\"refusal\":16}\n");
 }
 
 #[test]
 fn no_counts_below_weight_1() {
-    let row = "ORDER 2 1 4 1 1 1 3\nEVENTS 1\nPATHS 0\nCRC 0x3\n";
+    let row = |shared| format!("ORDER 2 1 4 1 1 1 3\nEVENTS 1\nPATHS 0\nCRC 0x3 {shared}\n");
     for link in ["tail-biting", "terminated"] {
         let option = match link {
             "terminated" => "--terminated",
             _ => "",
         };
         let run = |options: &str| crate::run::run(&format!("{option} {options} 2 1 4 1 1 1 3"));
-        for options in ["", "--of 0x3", "--events 1 --paths 0"] {
+        for (options, shared) in [("", 1), ("--of 0x3", 0), ("--events 1 --paths 0", 1)] {
             let answer = run(options);
-            assert_eq!((answer.status, answer.out.as_str()), (0, row), "{options}");
+            assert_eq!((answer.status, answer.out), (0, row(shared)), "{options}");
         }
         let json = run("--json").out;
         let numbers = r#""n":2,"v":1,"N":4,"m":1,"d":1,"generators":["1","3"]"#;
-        let found = r#""events":1,"paths":0,"counts":[],"crc":"0x3""#;
+        let found = r#""events":1,"paths":0,"counts":[],"crc":"0x3","shared":1"#;
         let expected = format!(r#"{{"order":{{"link":"{link}",{numbers}}},{found}}}"#);
         assert_eq!(json, expected + "\n");
         let signed = run("--checklist");
@@ -127,8 +166,8 @@ fn no_counts_below_weight_1() {
 #[test]
 fn one_count_below_weight_2() {
     let row = |count| format!("ORDER 2 4 4 2 2 7 21\nEVENTS 4\nPATHS 4\nA 1 4 {count}\n");
-    assert_eq!(run("2 4 4 2 2 7 21").out, row(0) + "CRC 0x5\n");
-    assert_eq!(run("--of 0x7 2 4 4 2 2 7 21").out, row(2) + "CRC 0x7\n");
+    assert_eq!(run("2 4 4 2 2 7 21").out, row(0) + "CRC 0x5 1\n");
+    assert_eq!(run("--of 0x7 2 4 4 2 2 7 21").out, row(2) + "CRC 0x7 0\n");
     let signed = run("--checklist 2 4 4 2 2 7 21");
     assert_eq!(signed.status, 0, "{}", signed.out);
     let loss = "   0x7 loses at weight 1, 2 to 0: undetected 2 at 1\n";
@@ -189,7 +228,7 @@ fn tables_have_the_needed_size_at_once() {
     let run = run("--memory 31 2 3 70 6 18 13 17");
     assert_eq!((run.status, run.err.as_str()), (0, ""));
     let row = "ORDER 2 3 70 6 18 13 17\nEVENTS 15852\nPATHS 1940785\n";
-    assert!(run.out.starts_with(row) && run.out.ends_with("CRC 0x63\n"));
+    assert!(run.out.starts_with(row) && run.out.ends_with("CRC 0x63 1\n"));
 }
 
 /// The lines of a refusal before the order is run.

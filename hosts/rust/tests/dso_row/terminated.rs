@@ -14,7 +14,19 @@ A 2 0 0
 A 3 3 0
 A 4 2 0
 A 5 1 0
-CRC 0x5
+CRC 0x5 1
+";
+
+/// The same with d = 5, where 0x7 has the same counts.
+const SHARED: &str = "\
+ORDER 2 1 3 2 5 1 3
+EVENTS 3
+PATHS 5
+A 1 0 0
+A 2 0 0
+A 3 3 0
+A 4 2 0
+CRC 0x5 2
 ";
 
 const RECORD: [u8; 12] = [0, 10, 2, 2, 1, 3, 2, 6, 0, 1, 0, 3];
@@ -31,6 +43,8 @@ fn the_row_of_code_s() {
         assert_eq!(all, (0, ROW, ""));
     }
     assert_ne!(tail_biting(), ROW);
+    let shared = run("--terminated 2 1 3 2 5 1 3");
+    assert_eq!((shared.status, shared.out.as_str()), (0, SHARED));
 }
 
 #[test]
@@ -49,7 +63,6 @@ fn refusals() {
     assert_eq!(line("2 1 129 2 6 1 3"), "NO 5\n");
     assert_eq!(line("2 2 4 2 6 5 3"), "NO 16\n");
     assert_eq!(line("--of 0x4 2 1 3 2 6 1 3"), "NO 11\n");
-    assert_eq!(line("2 1 3 2 5 1 3"), "NO 15 2\n");
     assert_eq!(line("--events 3 --paths 6 2 1 3 2 6 1 3"), "NO 13\n");
     assert_eq!(line("--events 4 --paths 5 2 1 3 2 6 1 3"), "NO 14\n");
     assert_eq!(line("--events 4 --paths 6 2 1 3 2 6 1 3"), ROW);
@@ -80,13 +93,13 @@ terminated 2 1 3 2 6 1 3
   terminated ORDER 2 1 3 2 5 1 3
 tail-biting ORDER 2 1 3 2 6 1 3
 ";
-    let (other, tie) = (tail_biting(), "ORDER 2 1 3 2 5 1 3\nNO 15 2\n");
+    let other = tail_biting();
     let list = run_on("--file -", orders.as_bytes());
-    let expected = format!("{ROW}{other}{tie}{other}");
+    let expected = format!("{ROW}{other}{SHARED}{other}");
     assert_eq!((list.status, list.out), (0, expected));
     // The option is for the lines that say nothing.
     let list = run_on("--terminated --file -", orders.as_bytes()).out;
-    assert_eq!(list, format!("{ROW}{ROW}{tie}{other}"));
+    assert_eq!(list, format!("{ROW}{ROW}{SHARED}{other}"));
     let json = run_on("--json --file -", orders.as_bytes()).out;
     let kinds: Vec<bool> = json
         .lines()
@@ -170,5 +183,5 @@ fn tables_have_the_needed_size_at_once() {
     let run = run("--terminated --memory 26 2 3 70 6 18 13 17");
     assert_eq!((run.status, run.err.as_str()), (0, ""));
     let row = "ORDER 2 3 70 6 18 13 17\nEVENTS 11561\nPATHS 1627283\n";
-    assert!(run.out.starts_with(row) && run.out.ends_with("CRC 0x43\n"));
+    assert!(run.out.starts_with(row) && run.out.ends_with("CRC 0x43 1\n"));
 }

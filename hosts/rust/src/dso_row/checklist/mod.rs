@@ -9,7 +9,8 @@ mod tail;
 mod trellis;
 mod zero;
 
-use dohvrin::{Link, Order, Refusal, Row, Tables};
+use dohvrin::{Link, Order, Row, Tables};
+use rivals::Choice;
 use std::io::{self, Write};
 
 /// The listed paths: those of each weight from 1 to d - 1, in increasing order.
@@ -44,22 +45,38 @@ impl Paths {
     }
 }
 
-/// Writes the points of the list after a row, or after a tie. Whether all of
-/// them are as they should be.
-pub fn write(
-    out: &mut impl Write,
-    order: &Order,
-    answer: &Result<Row, Refusal>,
-    tables: &Tables,
-) -> io::Result<bool> {
+/// Writes the points of the list after a row. Whether all of them are as they
+/// should be.
+pub fn write(out: &mut impl Write, row: &Row, tables: &Tables) -> io::Result<bool> {
+    let order = row.order();
     let paths = Paths::of(order, tables);
-    let coprime = polynomials::write(out, order.generators(), answer)?;
+    let coprime = polynomials::write(out, order.generators(), row.polynomial())?;
     let moved = rotations::write(out, &paths)?;
     let walked = match order.link() {
         Link::TailBiting => zero::write(out, order, &paths)?,
         Link::Terminated => tail::write(out, order, &paths)?,
     };
-    let best = rivals::write(out, order, answer, tables.undetected(), &paths)?;
+    let best = rivals::write(out, order, &Choice::of(row), &paths)?;
     out.flush()?;
     Ok(coprime && moved && walked && best)
+}
+
+#[cfg(test)]
+mod tests {
+    use super::write;
+    use dohvrin::{Order, Row, Tables};
+
+    #[test]
+    fn a_row_whose_choice_is_wrong_fails() {
+        let order = Order::new(&[1, 3], 1, 4, 2, 6).unwrap();
+        let mut tables = Tables::with_entries(5, 13);
+        let right = |row: &Row, tables: &Tables| write(&mut Vec::new(), row, tables).unwrap();
+        let best = tables.search(&order).unwrap();
+        assert!(right(&best, &tables));
+        // Another polynomial, and the best without the number.
+        for polynomial in [0x7, 0x5] {
+            let given = tables.count(&order, polynomial).unwrap();
+            assert!(!right(&given, &tables), "{polynomial:X}");
+        }
+    }
 }

@@ -1,15 +1,10 @@
 //! Point 1: a figure that was entered from the wrong end is seen at once, and so
 //! is a factor that all generators share.
 
-use dohvrin::{Refusal, Row};
 use std::io::{self, Write};
 
 /// Whether no factor is shared by all generators.
-pub fn write(
-    out: &mut impl Write,
-    generators: &[u64],
-    answer: &Result<Row, Refusal>,
-) -> io::Result<bool> {
+pub fn write(out: &mut impl Write, generators: &[u64], check: u64) -> io::Result<bool> {
     writeln!(out, "\n1. The polynomials written out")?;
     let factored: Vec<Vec<u64>> = generators.iter().map(|&g| factors(g)).collect();
     for (&generator, factors) in generators.iter().zip(&factored) {
@@ -22,10 +17,7 @@ pub fn write(
         None => writeln!(out, "   no factor is shared by all generators")?,
         Some(factor) => writeln!(out, "   SHARED by all generators: {}", sum(factor))?,
     }
-    if let Ok(row) = answer {
-        let p = row.polynomial();
-        writeln!(out, "   check 0x{p:X} is {}", sum(p))?;
-    }
+    writeln!(out, "   check 0x{check:X} is {}", sum(check))?;
     Ok(shared.is_none())
 }
 
@@ -93,7 +85,6 @@ fn quotient(polynomial: u64, divisor: u64) -> Option<u64> {
 #[cfg(test)]
 mod tests {
     use super::{factors, sum, write};
-    use dohvrin::Refusal;
 
     #[test]
     fn sums() {
@@ -121,9 +112,12 @@ mod tests {
 
     fn said(generators: &[u64]) -> (bool, String) {
         let mut out = Vec::new();
-        let fine = write(&mut out, generators, &Err(Refusal::Tie { left: 2 })).unwrap();
+        let fine = write(&mut out, generators, 0x43).unwrap();
         (fine, String::from_utf8(out).unwrap())
     }
+
+    /// The line of the check, which is the last.
+    const CHECK: &str = "   check 0x43 is x^6+x+1\n";
 
     #[test]
     fn no_factor_in_all() {
@@ -136,7 +130,7 @@ mod tests {
    generator 13 is x^3+x+1, irreducible
    no factor is shared by all generators
 ";
-        assert_eq!((fine, text.as_str()), (true, expected));
+        assert_eq!((fine, text), (true, format!("{expected}{CHECK}")));
         // Each two of them share one.
         assert!(said(&[0o11, 0o35, 0o61]).0);
     }
@@ -145,9 +139,9 @@ mod tests {
     fn a_factor_in_all() {
         let (fine, text) = said(&[5, 3]);
         assert!(!fine);
-        assert!(text.ends_with("   SHARED by all generators: x+1\n"));
+        assert!(text.ends_with(&format!("   SHARED by all generators: x+1\n{CHECK}")));
         let (fine, text) = said(&[0o13, 0o35, 0o61]);
         assert!(!fine);
-        assert!(text.ends_with("   SHARED by all generators: x^3+x+1\n"));
+        assert!(text.contains("   SHARED by all generators: x^3+x+1\n"));
     }
 }

@@ -3,12 +3,12 @@
 
 use super::remainders::Remainders;
 use super::Paths;
-use dohvrin::{Order, Refusal, Row};
+use dohvrin::{Order, Row};
 use std::io::{self, Write};
 
-/// Rivals shown, and polynomials of a tie.
+/// Rivals shown, and polynomials that share the best counts.
 const RIVALS: usize = 5;
-const TIED: usize = 16;
+const SHARING: usize = 16;
 /// Candidates that are ranked: the best, and its rivals.
 const WANTED: usize = 1 + RIVALS;
 
@@ -19,41 +19,62 @@ struct Candidate {
     counts: Vec<u64>,
 }
 
-/// Whether the paths give the same choice, or the same tie, and the same counts.
-pub fn write(
-    out: &mut impl Write,
-    order: &Order,
-    answer: &Result<Row, Refusal>,
-    undetected: &[u64],
-    paths: &Paths,
-) -> io::Result<bool> {
-    let ranked = ranked(order, paths);
-    let best = &ranked[0].counts;
-    let first = ranked.partition_point(|candidate| candidate.counts == *best);
-    let (first, others) = ranked.split_at(first);
-    let same_choice = match answer {
-        Ok(row) => first.len() == 1 && first[0].polynomial == row.polynomial(),
-        Err(refusal) => first.len() as u64 == refusal.left(),
-    };
-    let right = same_choice && best == undetected;
-    let (names, counts) = (names(first), listed(best));
-    writeln!(out, "\n4. Rivals, of {} polynomials", 1 << (order.m() - 1))?;
-    writeln!(out, "   best by the listed paths: {names}, {counts}")?;
-    if !right {
-        writeln!(out, "   DIFFERS from the row: {}", listed(undetected))?;
-    }
-    for rival in others.iter().take(RIVALS) {
-        writeln!(out, "   {}", loss(rival, best))?;
-    }
-    Ok(right)
+/// What a row says of its polynomial.
+#[derive(Clone, Copy, PartialEq, Eq)]
+pub struct Choice<'a> {
+    polynomial: u64,
+    /// How many polynomials have its counts, it among them.
+    shared: u64,
+    undetected: &'a [u64],
 }
 
-/// The first polynomials of these.
-fn names(candidates: &[Candidate]) -> String {
-    let shown = candidates.iter().take(TIED);
-    let names: Vec<String> = shown.map(|c| format!("0x{:X}", c.polynomial)).collect();
-    let more = if candidates.len() > TIED { " .." } else { "" };
-    names.join(" ") + more
+impl Choice<'_> {
+    pub fn of(row: &Row) -> Choice<'_> {
+        Choice {
+            polynomial: row.polynomial(),
+            shared: row.shared(),
+            undetected: row.undetected(),
+        }
+    }
+}
+
+/// Whether the paths give the same choice: the smallest of those with the best
+/// counts, how many these are, and the counts.
+pub fn write(out: &mut impl Write, order: &Order, row: &Choice, paths: &Paths) -> io::Result<bool> {
+    let ranked = ranked(order, paths);
+    let counts = &ranked[0].counts;
+    let sharing = ranked.partition_point(|candidate| candidate.counts == *counts);
+    let (first, others) = ranked.split_at(sharing);
+    let best = Choice {
+        polynomial: first[0].polynomial,
+        shared: first.len() as u64,
+        undetected: counts,
+    };
+    let (p, unseen) = (best.polynomial, listed(counts));
+    writeln!(out, "\n4. Rivals, of {} polynomials", 1 << (order.m() - 1))?;
+    writeln!(out, "   best by the listed paths: 0x{p:X}, {unseen}")?;
+    if first.len() > 1 {
+        writeln!(out, "   and {}", more(&first[1..]))?;
+    }
+    if *row != best {
+        let (p, shared, unseen) = (row.polynomial, row.shared, listed(row.undetected));
+        writeln!(
+            out,
+            "   DIFFERS from the row: CRC 0x{p:X} {shared}, {unseen}"
+        )?;
+    }
+    for rival in others.iter().take(RIVALS) {
+        writeln!(out, "   {}", loss(rival, counts))?;
+    }
+    Ok(*row == best)
+}
+
+/// How many share the counts of the best, and the first of them.
+fn more(sharing: &[Candidate]) -> String {
+    let shown = sharing.iter().take(SHARING);
+    let names: String = shown.map(|c| format!(" 0x{:X}", c.polynomial)).collect();
+    let rest = if sharing.len() > SHARING { " .." } else { "" };
+    format!("{} more with the same counts:{names}{rest}", sharing.len())
 }
 
 /// Where a rival loses.
@@ -79,7 +100,8 @@ fn listed(counts: &[u64]) -> String {
 }
 
 /// The best candidates, and all others with the same counts as the last of
-/// them. At each weight those are dropped that are not among the best so far.
+/// them; those with the same counts in increasing order, which sorting keeps. At
+/// each weight those are dropped that are not among the best so far.
 fn ranked(order: &Order, paths: &Paths) -> Vec<Candidate> {
     let mut alive = candidates(order);
     for part in &paths.by_weight {
@@ -130,24 +152,72 @@ fn candidates(order: &Order) -> Vec<Candidate> {
 
 #[cfg(test)]
 mod tests {
-    use super::write;
+    use super::{candidates, more, write, Choice};
     use crate::checklist::Paths;
-    use dohvrin::{Order, Refusal, Tables};
+    use dohvrin::{Order, Tables};
+
+    /// Whether a choice is the one for code S with N = 4, and what is said of it.
+    fn said(d: u64, polynomial: u64, shared: u64, undetected: &[u64]) -> (bool, String) {
+        let order = Order::new(&[1, 3], 1, 4, 2, d).unwrap();
+        let mut tables = Tables::with_entries(5, 13);
+        tables.search(&order).unwrap();
+        let choice = Choice {
+            polynomial,
+            shared,
+            undetected,
+        };
+        let (mut out, paths) = (Vec::new(), Paths::of(&order, &tables));
+        let right = write(&mut out, &order, &choice, &paths).unwrap();
+        (right, String::from_utf8(out).unwrap())
+    }
 
     #[test]
     fn a_wrong_choice_is_seen() {
-        let order = Order::new(&[1, 3], 1, 4, 2, 6).unwrap();
-        let mut tables = Tables::with_entries(5, 13);
-        let other = tables.count(&order, 0x7);
-        let found = tables.search(&order);
-        let paths = Paths::of(&order, &tables);
-        let right = |answer, counts: &[u64]| {
-            let mut out = Vec::new();
-            write(&mut out, &order, answer, counts, &paths).unwrap()
-        };
-        assert!(right(&found, tables.undetected()));
-        assert!(!right(&other, tables.undetected()));
-        assert!(!right(&found, &[0, 0, 0, 0, 0]));
-        assert!(!right(&Err(Refusal::Tie { left: 2 }), tables.undetected()));
+        let counts = [0, 0, 0, 1, 0];
+        let (right, text) = said(6, 0x5, 1, &counts);
+        assert!(right && !text.contains("more") && !text.contains("DIFFERS"));
+        for (polynomial, shared, counts, told) in [
+            (0x7, 1, counts, "CRC 0x7 1, undetected 1 at 4"),
+            (0x5, 2, counts, "CRC 0x5 2, undetected 1 at 4"),
+            (0x5, 0, counts, "CRC 0x5 0, undetected 1 at 4"),
+            (0x5, 1, [0; 5], "CRC 0x5 1, nothing undetected"),
+        ] {
+            let (right, text) = said(6, polynomial, shared, &counts);
+            assert!(!right, "{told}");
+            let expected = format!("\n   DIFFERS from the row: {told}\n");
+            assert!(text.contains(&expected), "{text}");
+        }
+    }
+
+    #[test]
+    fn those_that_share_the_best_counts_are_named() {
+        let counts = [0, 0, 0, 1];
+        let (right, text) = said(5, 0x5, 2, &counts);
+        assert!(right);
+        let named = "0x5, undetected 1 at 4\n   and 1 more with the same counts: 0x7\n";
+        assert!(text.ends_with(named), "{text}");
+        // Not the smallest of them, one too few, one too many.
+        for (polynomial, shared) in [(0x7, 2), (0x5, 1), (0x5, 3)] {
+            let (right, text) = said(5, polynomial, shared, &counts);
+            let differs = format!(" the row: CRC 0x{polynomial:X} {shared}, undetected 1 at 4\n");
+            assert!(!right && text.ends_with(&differs), "{text}");
+        }
+    }
+
+    #[test]
+    fn the_first_of_many_are_named() {
+        let order = Order::new(&[1, 3], 1, 8, 6, 1).unwrap();
+        let mut tables = Tables::with_entries(1, 0);
+        let row = tables.search(&order).unwrap();
+        let (mut out, paths) = (Vec::new(), Paths::of(&order, &tables));
+        assert!(write(&mut out, &order, &Choice::of(&row), &paths).unwrap());
+        let text = String::from_utf8(out).unwrap();
+        assert!(text.contains("best by the listed paths: 0x41, nothing undetected\n"));
+        assert!(text.contains("\n   and 31 more with the same counts: 0x43 "));
+        assert!(text.ends_with(" 0x61 ..\n"), "{text}");
+        // As many as are named, and one more.
+        let all = candidates(&order);
+        assert!(more(&all[..16]).ends_with(" 0x5F"));
+        assert!(more(&all[..17]).ends_with(" 0x5F .."));
     }
 }
