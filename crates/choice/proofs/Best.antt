@@ -4,7 +4,7 @@
 use Prim.Native.Nat.{ℕ, _<_}
 use mathlib.Core.Path.{_≡_, refl, sym, _∙_, subst}
 use mathlib.Core.Bool.{not}
-use mathlib.Core.Logic.{_⊎_, inl, inr, ⊎-elim}
+use mathlib.Core.Logic.{_↔_, _⊎_, inl, inr, ⊎-elim}
 use mathlib.Core.List.{List, [], _∷_, List·Memᴰ, List·Memᴰ·head, List·Memᴰ·not-nil}
 use lib.Dec.{T, T-not}
 use lib.ListN.{length}
@@ -27,15 +27,17 @@ module _ (counts : ℕ → List ℕ) (ps : List ℕ) where
   abbrev pub Unbeaten : ℕ → Type 0
   Unbeaten p = (q : ℕ) → List·Memᴰ q ps → T (not (fewer (counts q) (counts p)))
 
+  pub unbettered⇔unbeaten : (p : ℕ) → T (unbettered counts ps p) ↔ Unbeaten p
+  unfolding unbettered
+  unbettered⇔unbeaten p = mem-not-any (λ q. fewer (counts q) (counts p)) ps
+
   pub of-best : (p : ℕ) → List·Memᴰ p (best counts ps) → List·Memᴰ p ps × Unbeaten p
-  unfolding best unbettered
-  of-best p m =
-      let h = of-filter (unbettered counts ps) ps m in
-      (h .0, mem-not-any (λ q. fewer (counts q) (counts p)) ps .0 (h .1))
+  unfolding best
+  of-best p m = let h = of-filter (unbettered counts ps) ps m in (h .0, unbettered⇔unbeaten p .0 (h .1))
 
   pub in-best : (p : ℕ) → List·Memᴰ p ps → Unbeaten p → List·Memᴰ p (best counts ps)
-  unfolding best unbettered
-  in-best p m u = in-filter (unbettered counts ps) ps m (mem-not-any (λ q. fewer (counts q) (counts p)) ps .1 u)
+  unfolding best
+  in-best p m u = in-filter (unbettered counts ps) ps m (unbettered⇔unbeaten p .1 u)
 
   pub best-sorted : Sorted _<_ ps → Sorted _<_ (best counts ps)
   unfolding best

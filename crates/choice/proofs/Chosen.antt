@@ -10,7 +10,6 @@ use mathlib.Core.List.{List, [], _∷_, List·Memᴰ, List·Memᴰ·not-nil, Lis
 use lib.Dec.{T, not-T}
 use lib.ListN.{length}
 use Rattle.lists.proofs.Tests.{true-of-T}
-use Rattle.lists.proofs.Member.{mem-not-any}
 use Rattle.lists.proofs.Filters.{filter-one}
 use Rattle.lists.proofs.Sorted.{Sorted, sorted-unique}
 use Rattle.order.specs.Order.{Order}
@@ -19,7 +18,7 @@ use Rattle.choice.specs.Choice.{candidates, fewer, unbettered, best, fir
 use Rattle.choice.specs.Best.{IsCandidate, LowestLess, FirstBest, BestOf}
 use Rattle.choice.proofs.Fewer.{lowest-of-fewer, fewer-of-lowest, fewer-irreflexive, fewer-asymmetric, not-itself}
 use Rattle.choice.proofs.Candidates.{mem-candidates, candidates-sorted, some-candidate}
-use Rattle.choice.proofs.Best.{firstOf-member, of-best, in-best, best-sorted, best-nonempty, every-other-worse, best-share, best-of-same}
+use Rattle.choice.proofs.Best.{firstOf-member, unbettered⇔unbeaten, of-best, in-best, best-sorted, best-nonempty, every-other-worse, best-share, best-of-same}
 use Rattle.choice.proofs.ByWeight.{length-undetectedCounts}
 
 -- the first of a list in order is the least
@@ -109,10 +108,9 @@ module _ (IsOne : ℕ → Type 0) (n : ℕ) (counts : ℕ → List ℕ) (sized :
 -- ---- of one candidate alone
 
 alone-left : (counts : ℕ → List ℕ) (p : ℕ) → best counts (p ∷ []) ≡ p ∷ []
-unfolding best unbettered
+unfolding best
 alone-left counts p =
-    let itself = mem-not-any (λ q. fewer (counts q) (counts p)) (p ∷ []) .1
-    (λ q m. rw (List·Memᴰ·eq-of-singleton m) (not-itself (counts p))) in
+    let itself = unbettered⇔unbeaten counts (p ∷ []) p .1 (λ q m. rw (List·Memᴰ·eq-of-singleton m) (not-itself (counts p))) in
     filter-one (unbettered counts (p ∷ [])) p true (true-of-T _ itself)
 
 pub alone-chosen : (counts : ℕ → List ℕ) (p : ℕ) → choiceAmong counts (p ∷ []) ≡ record { polynomial = p; shared = 1; undetected = counts p }

@@ -13,14 +13,14 @@ use lib.ListN.{length, getD, length-map}
 use lib.Seq.{ext-getD}
 use Rattle.lists.specs.Lists.{upFrom, filter, padded}
 use Rattle.lists.proofs.Tests.{true-of-T, false-of-T-not}
-use Rattle.lists.proofs.Member.{upFrom-bounds, of-filter, mem-not-any}
+use Rattle.lists.proofs.Member.{upFrom-bounds, of-filter}
 use Rattle.lists.proofs.Lengths.{getD-map-upFrom, length-padded, getD-padded-inside, getD-padded-after}
 use Rattle.choice.specs.Choice.{candidates, fewer, unbettered, best, firstOf}
 use Rattle.choice.specs.Model.Steps.{flagsLeft, aliveBelow}
 use Rattle.choice.proofs.Candidates.{few-candidates, candidate-number, candidate-member, some-candidate, length-candidates}
 use Rattle.lists.proofs.Filters.{filter-cong-on, filter-map}
 use Rattle.choice.proofs.Fewer.{not-itself}
-use Rattle.choice.proofs.Best.{firstOf-member, best-nonempty}
+use Rattle.choice.proofs.Best.{firstOf-member, unbettered⇔unbeaten, best-nonempty}
 use Rattle.choice.proofs.Leader.{leader, Alive, Among, leader-member, leader-least, level-or-worse}
 
 module _ (m : ℕ) (counts : ℕ → List ℕ) where
@@ -39,13 +39,11 @@ module _ (m : ℕ) (counts : ℕ → List ℕ) where
   -- ---- who is bettered by none
 
   of-unbettered : (p : ℕ) → T (left p) → (j : ℕ) → j < 2 ^ (m - 1) → T (not (fewer (countsOf j) (counts p)))
-  unfolding unbettered
-  of-unbettered p t j h = mem-not-any (λ q. fewer (counts q) (counts p)) (candidates m) .0 t (2 ^ m + 2 * j + 1) (candidate-member m j h)
+  of-unbettered p t j h = unbettered⇔unbeaten counts (candidates m) p .0 t (2 ^ m + 2 * j + 1) (candidate-member m j h)
 
   in-unbettered : (p : ℕ) → ((j : ℕ) → j < 2 ^ (m - 1) → T (not (fewer (countsOf j) (counts p)))) → T (left p)
-  unfolding unbettered
   in-unbettered p none =
-      mem-not-any (λ q. fewer (counts q) (counts p)) (candidates m) .1
+      unbettered⇔unbeaten counts (candidates m) p .1
       (λ q member.
       let h = candidate-number m q member in
       subst (λ (x : ℕ). T (not (fewer (counts x) (counts p)))) (h .named) (none (h .k) (h .below)))

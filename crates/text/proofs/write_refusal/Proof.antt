@@ -9,7 +9,7 @@ use Rattle.text.proofs.write_refusal.Statement.{statement}
 use Rattle.text.proofs.write_refusal.Tie as tie
 
 returns : tie.Need-returns
-returns c = let a = c .before .before .args in refusal-no-room (a .number) (a .buffer .now) (c .if1 .taken)
+returns c = let a = c .before .before .args in refusal-no-room (a .number) (a .buffer .now) (omega (arith, c .if1 .taken))
 
 clear-bytes-requires : tie.Need-clear-bytes-requires
 clear-bytes-requires c κs = search needs
