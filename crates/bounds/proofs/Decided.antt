@@ -3,15 +3,15 @@
 use Prim.Native.Nat.{ℕ, _+_, _-_, _≤_, _<_}
 use native.Mathlib.Omega.{arith}
 use mathlib.Core.Path.{_≡_, refl}
-use mathlib.Core.Bool.{Bool, true, false, not, cond, _&&_}
+use mathlib.Core.Bool.{Bool, true, false, not, cond, _&&_, _||_}
 use mathlib.Core.Logic.{_⊎_, inl, inr, _≢_}
 use mathlib.Core.List.{List}
-use lib.Dec.{T, leb, eqb, leb→le, T-not}
+use lib.Dec.{T, leb, ltb, eqb, leb→le, T-not}
 use Rattle.lists.proofs.Choices.{eqb-passes}
 use Rattle.lists.proofs.Tests.{T-and}
 use Rattle.events.specs.declared.Event.{Event}
 use Rattle.bounds.specs.declared.Chain.{Chain}
-use Rattle.bounds.specs.Model.Tables.{fillAt, skipped, complete, continued, decided}
+use Rattle.bounds.specs.Model.Tables.{fillAt, lightAt, skipped, complete, continued, decided}
 
 -- ---- of four tests, which one made it
 
@@ -52,6 +52,13 @@ module _ (work : List ℕ) (begun : Chain) (e : Event) where
   abbrev pub whole : Bool
   whole = eqb (e .length) (begun .steps)
 
+  -- the weight left after it is below that of every event but the zero loop
+  abbrev pub spare : Bool
+  spare = ltb (begun .budget - e .weight) (lightAt work)
+
+  abbrev pub ending : Bool
+  ending = whole || spare
+
   abbrev pub spent : Bool
   spent = eqb (e .weight) (begun .budget)
 
@@ -64,29 +71,44 @@ module _ (work : List ℕ) (begun : Chain) (e : Event) where
       (leb→le (e .length) (begun .steps) (h .0), leb→le (e .weight) (begun .budget) (h .1))
 
   pub decided-skipped : decided work begun e ≡ skipped
-      → T (not fits) ⊎ ((T whole × T (not spent)) ⊎ (T (not whole) × T (not enough)))
+      → T (not fits) ⊎ ((T ending × T (not spent)) ⊎ (T (not ending) × T (not enough)))
   unfolding decided
-  decided-skipped = verdict-skipped fits whole spent enough
+  decided-skipped = verdict-skipped fits ending spent enough
 
-  pub decided-complete : decided work begun e ≡ complete → T fits × (T whole × T spent)
+  pub decided-complete : decided work begun e ≡ complete → T fits × (T ending × T spent)
   unfolding decided
-  decided-complete = verdict-complete fits whole spent enough
+  decided-complete = verdict-complete fits ending spent enough
 
-  pub decided-continued : decided work begun e ≢ skipped → decided work begun e ≢ complete → T fits × (T (not whole) × T enough)
+  pub decided-continued : decided work begun e ≢ skipped → decided work begun e ≢ complete → T fits × (T (not ending) × T enough)
   unfolding decided
-  decided-continued = verdict-continued fits whole spent enough
+  decided-continued = verdict-continued fits ending spent enough
 
   -- an event that is joined fits
   pub decided-fits : decided work begun e ≢ skipped → (e .length ≤ begun .steps) × (e .weight ≤ begun .budget)
   unfolding decided
-  decided-fits n₀ = fit-parts (verdict-fits fits whole spent enough n₀)
+  decided-fits n₀ = fit-parts (verdict-fits fits ending spent enough n₀)
+
+  -- it ends a chain in one of two ways
+  pub ending-parts : T ending → T whole ⊎ (T (not whole) × T spare)
+  ending-parts = by whole
+    where
+      by : (b : Bool) → T (b || spare) → T b ⊎ (T (not b) × T spare)
+      by true t = inl tt
+      by false t = inr (tt, t)
+
+  pub not-whole : T (not ending) → T (not whole)
+  not-whole = by whole
+    where
+      by : (b : Bool) → T (not (b || spare)) → T (not b)
+      by true t = t
+      by false t = tt
 
   -- and leaves some steps where more follow
   pub decided-shorter : decided work begun e ≢ skipped → decided work begun e ≢ complete → e .length < begun .steps
   decided-shorter n₀ n₁ =
       let f = decided-fits n₀ .0 in
       let n : e .length ≢ begun .steps =
-      λ q. T-not whole (decided-continued n₀ n₁ .1 .0) (eqb-passes (e .length) (begun .steps) q) in
+      λ q. T-not whole (not-whole (decided-continued n₀ n₁ .1 .0)) (eqb-passes (e .length) (begun .steps) q) in
       less (e .length) (begun .steps) f n
     where
       less : (x y : ℕ) → x ≤ y → x ≢ y → x < y

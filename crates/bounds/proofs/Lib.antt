@@ -1,6 +1,7 @@
 pub mod Regions
 pub mod Kept
 pub mod Cases
+pub mod ZeroLoops
 pub mod Survey
 pub mod Carried
 pub mod Decided
@@ -8,4 +9,5 @@ pub mod Placed
 pub mod Ready
 pub mod States
 pub mod Looked
+pub mod Weighed
 pub mod Plains

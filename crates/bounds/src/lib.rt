@@ -1,11 +1,13 @@
 // The tables that tell which events are worth joining to a chain: where each state's and each length's events stand, and the least weights of an
 // event of each length and of a chain of each number of steps. They are kept in the work area; specs/Model/Places.antt says where.
 ghost use mathlib.Core.Path.{_≡_};
-ghost use Prim.Native.Nat.{_+_, _≤_, _<_, min, max};
-ghost use lib.ListN.{length};
+ghost use Prim.Native.Nat.{_+_, _-_, _≤_, _<_, min, max};
+ghost use lib.ListN.{length, set};
 ghost use Rattle.code.specs.Model.Steps.{mostSteps};
-ghost use Rattle.bounds.specs.Model.Places.{stateCount, areaSize};
-ghost use Rattle.bounds.specs.Model.Tables.{firstOf, noted, opened, carried, leastSum, filled, indexed, closed, nextLength, beginning, following, decided, Fits, Small, ToLook, ToFollow, ToDecide};
+ghost use mathlib.Core.Bool.{cond};
+ghost use lib.Dec.{eqb};
+ghost use Rattle.bounds.specs.Model.Places.{stateCount, lengthCount, lightPlace, areaSize};
+ghost use Rattle.bounds.specs.Model.Tables.{firstOf, noted, opened, carried, leastSum, filled, indexed, closed, isZeroLoop, lightest, lightOf, nextLength, beginning, following, complete, skipped, decided, Fits, Small, ToWeigh, ToLook, ToFollow, ToDecide};
 use events::Event;
 
 // ---- places of the work area, each where a table begins; specs/Model/Places.antt says what stands there
@@ -25,6 +27,8 @@ pub const FILL_AT: usize = 1792;
 pub const BITS_AT: usize = 2048;
 
 pub const END_AT: usize = 2049;
+
+pub const LIGHT_AT: usize = 2050;
 
 // How many states and how many lengths, 0 among them, the tables have.
 const STATES: usize = 256;
@@ -166,6 +170,63 @@ pub fn close_state(work: &mut [u64], from: usize)
     fill(work);
 }
 
+// An event of one step that weighs nothing, whose input is 0.
+fn is_zero_loop(e: Event) -> bool
+    ensures { λ r. ⌜ r ≡ isZeroLoop e ⌝ }
+{
+    if e.length == 1 {
+        if e.weight == 0 {
+            if e.low == 0 {
+                return e.high == 0;
+            }
+        }
+    }
+    false
+}
+
+// The least weight of an event of two steps or more.
+fn lightest(work: &[u64]) -> u64
+    requires { ⌜ Small (now work) ⌝ }
+    ensures { λ r. ⌜ r ≡ lightest (now (work .entry)) (lengthCount - 2) ⌝ }
+{
+    let mut least = TOO_HEAVY;
+    let mut l = 2;
+    while l < LENGTHS {
+        least = smaller(least, work[LEAST_AT + l]);
+        l += 1;
+    }
+    least
+}
+
+fn light_of(work: &[u64], e: Event, from: usize) -> u64
+    requires { ⌜ ToWeigh (now work) from ⌝ }
+    ensures { λ r. ⌜ r ≡ lightOf (now (work .entry)) e from ⌝ }
+{
+    if is_zero_loop(e) {
+        if work[START_AT + 2] as usize == from + 1 {
+            return lightest(work);
+        }
+    }
+    0
+}
+
+// Once a state's tables are closed: where its first event e, at place `from`, is the zero loop, what the others weigh at least.
+pub fn weigh_others(work: &mut [u64], e: Event, from: usize)
+    requires { ⌜ ToWeigh (now work) from ⌝ }
+    ensures { λ _. ⌜ now (work .exit) ≡ set (now (work .entry)) lightPlace (lightOf (now (work .entry)) e from) ⌝ }
+{
+    let w = light_of(work, e, from);
+    work[LIGHT_AT] = w;
+}
+
+// A state without events.
+pub fn weigh_none(work: &mut [u64])
+    requires { ⌜ areaSize ≤ length (now work) ⌝ }
+    ensures { λ _. ⌜ now (work .exit) ≡ set (now (work .entry)) lightPlace 0 ⌝ }
+{
+    work[LIGHT_AT] = 0;
+}
+
 // The place of the first event of state i or above.
 pub fn first_of(work: &[u64], i: usize) -> usize
     requires { ⌜ (areaSize ≤ length (now work)) × (i ≤ stateCount) ⌝ }
@@ -216,6 +277,16 @@ pub fn follow(work: &[u64], at: usize, room: usize, begun: Chain, l: u64, k: usi
     next_length(work, begun.steps, begun.budget, l + 1)
 }
 
+// What the last event comes to.
+fn last(begun: Chain, e: Event) -> u64
+    ensures { λ r. ⌜ r ≡ cond (eqb (e .weight) (begun .budget)) complete skipped ⌝ }
+{
+    if e.weight == begun.budget {
+        return COMPLETE;
+    }
+    SKIPPED
+}
+
 // What event e comes to.
 pub fn decide(work: &[u64], begun: Chain, e: Event) -> u64
     requires { ⌜ ToDecide (now work) begun e ⌝ }
@@ -228,10 +299,10 @@ pub fn decide(work: &[u64], begun: Chain, e: Event) -> u64
         return SKIPPED;
     }
     if e.length == begun.steps {
-        if e.weight == begun.budget {
-            return COMPLETE;
-        }
-        return SKIPPED;
+        return last(begun, e);
+    }
+    if begun.budget - e.weight < work[LIGHT_AT] {
+        return last(begun, e);
     }
     if e.weight + work[FILL_AT + (begun.steps - e.length) as usize] <= begun.budget {
         return CONTINUED;

@@ -8,30 +8,39 @@ use native.Mathlib.Omega.{arith}
 use mathlib.Core.Path.{_≡_, refl, sym, ap, _∙_, subst}
 use mathlib.Core.Bool.{not, cond}
 use mathlib.Core.Logic.{⊎-elim, _≢_}
-use mathlib.Core.List.{List, [], _∷_, _++_, flatMap, List·Memᴰ, Memᴰ·of-map}
-use lib.Dec.{T, leb, eqb, leb→le, eqb→eq, not-T, nleb→lt}
+use mathlib.Core.List.{List, [], _∷_, _++_, flatMap, map, List·Memᴰ, Memᴰ·of-map}
+use lib.Dec.{T, leb, ltb, eqb, leb→le, ltb→lt, eqb→eq, not-T, nleb→lt}
 use lib.Pow.{split}
 use lib.ListN.{length, getD}
 use Rattle.lists.specs.Lists.{upFrom}
 use Rattle.lists.proofs.Member.{upFrom-bounds}
 use Rattle.lists.proofs.Tests.{T-and, passes-or-fails}
 use Rattle.lists.proofs.Blocks.{flatMap-cong-on, flatMap-map}
-use Rattle.lists.proofs.Choices.{cond-true, cond-false}
+use Rattle.lists.proofs.Choices.{cond-true, cond-false, eqb-differs}
 use Rattle.events.specs.declared.Event.{Event}
 use Rattle.events.specs.Events.{ErrorEvent, noEvent}
 use Rattle.paths.specs.Model.Joining.{turns, firstOr, fitsIn, joining, joined}
 use Rattle.paths.proofs.Passed.{joining-more}
 use Rattle.paths.proofs.Pruned.{joined-drops}
+use Rattle.paths.proofs.UsedUp.{Calm, used-up, too-light}
 use Rattle.bounds.specs.declared.Chain.{Chain}
-use Rattle.bounds.specs.Model.Tables.{startAt, endAt, bitsAt, leastAt, fillAt, skipped, complete, decided}
-use Rattle.bounds.proofs.Decided.{fits, whole, spent, fit-parts, decided-skipped, decided-complete, decided-continued}
+use Rattle.bounds.specs.Model.Tables.{startAt, endAt, bitsAt, leastAt, fillAt, lightAt, skipped, complete, decided}
+use Rattle.bounds.proofs.ZeroLoops.{zero-loop}
+use Rattle.bounds.proofs.Decided.{fits, whole, spare, ending, spent, ending-parts, not-whole, fit-parts, decided-skipped, decided-complete, decided-continued}
 use Rattle.bounds.proofs.Looked.{Useless}
-use Rattle.chains.specs.Model.Chaining.{inputsOf, wordOf, errorEvent, atHand, extended, found, foundBy, Joinable, Joins, Unfinished}
+use Rattle.chains.specs.Model.Chaining.{inputsOf, wordOf, errorEvent, atHand, extended, found, foundBy, Joinable, Calming, Joins, Unfinished}
 
 pub word-extended : (N : ℕ) (begun : Chain) (e : Event)
     → inputsOf (extended N begun e) ≡ inputsOf begun + wordOf e * 2 ^ (N - begun .steps)
 unfolding extended
 word-extended N begun e = split (inputsOf begun + wordOf e * 2 ^ (N - begun .steps)) 64
+
+-- the first event's length stays
+firstOr-again : (first l : ℕ) → 1 ≤ l → firstOr (firstOr first l) 1 ≡ firstOr first l
+unfolding firstOr
+firstOr-again zero zero h = absurd (omega arith)
+firstOr-again zero (suc l) h = refl
+firstOr-again (suc first) l h = refl
 
 module _ {table : List Event} {work : List ℕ} (joins : Joins table work) where
   abbrev N : ℕ
@@ -71,6 +80,29 @@ module _ {table : List Event} {work : List ℕ} (joins : Joins table work) where
   drops : (fuel left acc first budget : ℕ) → left ≤ N → budget < fillAt work left → joined fuel es N left acc first budget ≡ []
   drops =
       joined-drops N es some-step (leastAt work) (fillAt work) (joins .ready .fill-zero) (joins .ready .fill-step) least-weighs
+
+  -- where the table tells something of it, the zero loop is the first event at hand, and the others weigh as much
+  calm : 1 ≤ lightAt work → Calm (lightAt work) es
+  unfolding atHand errorEvent upFrom
+  calm h =
+      let c = joins .calming h in
+      let loop = zero-loop (getD table from noEvent) (c .loop) in
+      let low = loop .no-low in
+      let high = loop .no-high in
+      let some = c .some in
+      let more : to - from ≡ suc (to - from - 1) = omega arith in
+      record {
+        loop = errorEvent (getD table from noEvent);
+        others = map (λ k. errorEvent (getD table k noEvent)) (upFrom (suc from) (to - from - 1));
+        are = ap (λ (n : ℕ). map (λ k. errorEvent (getD table k noEvent)) (upFrom from n)) more;
+        one-step = loop .one-step;
+        no-weight = loop .no-weight;
+        no-input = omega (arith, low, high);
+        weighs = λ e m.
+            let k = Memᴰ·of-map (λ k. errorEvent (getD table k noEvent)) (upFrom (suc from) (to - from - 1)) m in
+            let b = upFrom-bounds (suc from) (to - from - 1) (k .1) in
+            subst (λ (x : ErrorEvent). lightAt work ≤ x .weight) (k .2) (c .weighs (k .0) (omega arith) (omega arith));
+      }
 
   -- ---- one event more, by itself
   module _ (fuel left acc first budget : ℕ) (e : ErrorEvent) (inside : left ≤ N) (some : 1 ≤ e .length) where
@@ -200,22 +232,59 @@ module _ {table : List Event} {work : List ℕ} (joins : Joins table work) where
     by-long : begun .steps < e .length → foundBy table work begun e ≡ []
     by-long long = by-unfit (not-T (fits work begun e) (λ t. let f = fit-parts work begun e t .0 in omega arith))
 
+    -- some step is left
+    steps-left : T (fits work begun e) → T (not (whole work begun e)) → e .length < begun .steps
+    steps-left f n =
+        less (e .length) (begun .steps) (fit-parts work begun e f .0) (eqb-differs (e .length) (begun .steps) n)
+      where
+        less : (x y : ℕ) → x ≤ y → x ≢ y → x < y
+        less x y g n = omega arith
+
+    -- the weight that is left is not used up by anything
+    by-light : T (fits work begun e) → T (not (whole work begun e)) → T (spare work begun e) → T (not (spent work begun e)) → foundBy table work begun e ≡ []
+    by-light f n p s =
+        let l = ltb→lt (begun .budget - e .weight) (lightAt work) p in
+        let w = fit-parts work begun e f .1 in
+        let d : e .weight ≢ begun .budget = eqb-differs (e .weight) (begun .budget) s in
+        let inside = is .within in
+        by-part f n
+        ∙ too-light N es (lightAt work) (omega arith) (calm (omega arith)) some-step fuel (begun .steps - e .length) longer first″
+        (begun .budget - e .weight) (omega arith) (left (e .weight) (begun .budget) w d) l
+      where
+        left : (x y : ℕ) → x ≤ y → x ≢ y → 1 ≤ y - x
+        left x y g n = omega arith
+
+    -- it is used up: zero loops follow
+    by-used : T (fits work begun e) → T (not (whole work begun e)) → T (spare work begun e) → T (spent work begun e)
+        → foundBy table work begun e ≡ turns N first″ longer
+    by-used f n p s =
+        let l = ltb→lt (begun .budget - e .weight) (lightAt work) p in
+        let w = eqb→eq (e .weight) (begun .budget) s in
+        let none : begun .budget - e .weight ≡ 0 = omega arith in
+        let some = able .some-step in
+        let short = steps-left f n in
+        by-part f n
+        ∙ ap (λ (x : ℕ). joined fuel es N (begun .steps - e .length) longer first″ x) none
+        ∙ used-up N es (lightAt work) (omega arith) (calm (omega arith)) fuel (begun .steps - e .length) longer first″ (omega arith) (omega arith)
+        ∙ ap (λ (x : ℕ). turns N x longer) (firstOr-again (begun .first) (e .length) some)
+
     pub found-none : decided work begun e ≡ skipped → foundBy table work begun e ≡ []
     found-none d =
         ⊎-elim by-unfit (λ h. ⊎-elim (λ k. ended (k .0) (k .1)) (λ k. by-heavy (nleb→lt _ _ (k .1))) h)
         (decided-skipped work begun e d)
       where
-        ended : T (whole work begun e) → T (not (spent work begun e)) → foundBy table work begun e ≡ []
+        ended : T (ending work begun e) → T (not (spent work begun e)) → foundBy table work begun e ≡ []
         ended t s =
-            ⊎-elim (λ f. by-whole f t ∙ cond-false (spent work begun e) (turns N first″ longer) [] s) by-unfit
-            (passes-or-fails (fits work begun e))
+            ⊎-elim (λ f. ⊎-elim (λ w. by-whole f w ∙ cond-false (spent work begun e) (turns N first″ longer) [] s) (λ p. by-light f (p .0) (p .1) s)
+            (ending-parts work begun e t)) by-unfit (passes-or-fails (fits work begun e))
 
     pub found-last : decided work begun e ≡ complete
         → foundBy table work begun e ≡ turns N (extended N begun e .first) (inputsOf (extended N begun e))
     unfolding extended
     found-last d =
         let h = decided-complete work begun e d in
-        by-whole (h .0) (h .1 .0) ∙ cond-true (spent work begun e) (turns N first″ longer) [] (h .1 .1)
+        ⊎-elim (λ w. by-whole (h .0) w ∙ cond-true (spent work begun e) (turns N first″ longer) [] (h .1 .1)) (λ p. by-used (h .0) (p .0) (p .1) (h .1 .1))
+        (ending-parts work begun e (h .1 .0))
         ∙ ap (turns N first″) (sym (word-extended N begun e))
 
     pub found-more : decided work begun e ≢ skipped → decided work begun e ≢ complete
@@ -226,7 +295,7 @@ module _ {table : List Event} {work : List ℕ} (joins : Joins table work) where
         let some = able .some-step in
         let inside = is .within in
         let left = is .some-left in
-        by-part (h .0) (h .1 .0)
+        by-part (h .0) (not-whole work begun e (h .1 .0))
         ∙ joined-fuel fuel (begun .steps - e .length) (begun .steps - e .length) longer first″ (begun .budget - e .weight)
         (omega arith) (omega arith) (omega arith)
         ∙ ap (λ (x : ℕ). joined (begun .steps - e .length) es N (begun .steps - e .length) x first″ (begun .budget - e .weight))

@@ -3,17 +3,22 @@
 use Prim.Native.Nat.{ℕ, _+_, _-_, _≤_, _<_}
 use native.Mathlib.Nat.{le-trans}
 use native.Mathlib.Omega.{arith}
-use mathlib.Core.Path.{_≡_, sym, subst}
+use mathlib.Core.Path.{_≡_, refl, sym, ap, _∙_, subst}
+use mathlib.Core.Bool.{Bool, true, false, cond}
+use lib.Dec.{T, ltb, ltb→lt, lt→ltb}
+use Rattle.lists.proofs.Choices.{cond-true}
 use mathlib.Core.List.{List}
-use lib.ListN.{length, getD}
+use lib.ListN.{length, getD, set}
 use Rattle.events.specs.declared.Event.{Event}
 use Rattle.events.specs.Events.{noEvent}
-use Rattle.bounds.specs.Model.Places.{stateCount}
-use Rattle.bounds.specs.Model.Tables.{firstOf, startAt, endAt, bitsAt, surveyed, opened, Small, Ready, Segment}
+use Rattle.bounds.specs.Model.Places.{stateCount, lightPlace}
+use Rattle.bounds.specs.Model.Tables.{firstOf, startAt, endAt, bitsAt, lightAt, surveyed, opened, isZeroLoop, lightOf, Small, Ready, Segment}
 use Rattle.bounds.proofs.Kept.{Noteworthy, length-survives, firstOf-survives, bitsAt-survives}
 use Rattle.bounds.proofs.Carried.{highest}
+use Rattle.bounds.proofs.ZeroLoops.{loop-told}
+use Rattle.bounds.proofs.Weighed.{length-weighed, bits-weighed, end-weighed, first-weighed, start-weighed, light-weighed, ready-weighed, first-loop, weighs-least}
 use Rattle.bounds.proofs.Ready.{segment-noteworthy, closed-start, segment-small, ready}
-use Rattle.chains.specs.Model.Chaining.{atState, Joinable, Joins, Noted, Indexed}
+use Rattle.chains.specs.Model.Chaining.{tabled, lightFrom, weighed, atState, Joinable, Calming, Joins, Noted, Indexed}
 
 module _ {table : List Event} {work : List ℕ} (ix : Indexed table work) (i : ℕ) (inside : i < stateCount) where
   abbrev from : ℕ
@@ -46,30 +51,77 @@ module _ {table : List Event} {work : List ℕ} (ix : Indexed table work) (i : �
   state-small =
       segment-small table from to work seg (ix .some-bits) (ix .few-bits) rising (ix .enough) (ix .fill-small)
 
-  pub state-ready : Ready table (atState table i work) from to
-  unfolding atState
-  state-ready =
+  tabled-ready : Ready table (tabled table i work) from to
+  unfolding tabled
+  tabled-ready =
       ready table from to work seg (ix .some-bits) (ix .few-bits) rising (ix .enough) (ix .fill-small)
 
+  pub tabled-small : Small (tabled table i work)
+  tabled-small = tabled-ready .small
+
+  abbrev light : ℕ
+  light = lightFrom table from to (tabled table i work)
+
+  pub state-ready : Ready table (atState table i work) from to
+  unfolding atState weighed
+  state-ready = ready-weighed (tabled table i work) light table from to seg tabled-ready
+
   pub length-atState : length (atState table i work) ≡ length work
-  unfolding atState
-  length-atState = length-survives table (to - from) from from to work noteworthy (ix .few-bits)
+  unfolding atState weighed tabled
+  length-atState =
+      length-weighed (tabled table i work) light ∙ length-survives table (to - from) from from to work noteworthy (ix .few-bits)
 
   pub bits-atState : bitsAt (atState table i work) ≡ bitsAt work
-  unfolding atState
-  bits-atState = bitsAt-survives table (to - from) from from to work noteworthy (ix .few-bits)
+  unfolding atState weighed tabled
+  bits-atState = bits-weighed (tabled table i work) light ∙ bitsAt-survives table (to - from) from from to work noteworthy (ix .few-bits)
 
   pub first-atState : (j : ℕ) → j ≤ stateCount → firstOf (atState table i work) j ≡ firstOf work j
-  unfolding atState
-  first-atState j h = firstOf-survives table (to - from) from from to work noteworthy (ix .few-bits) j h
+  unfolding atState weighed tabled
+  first-atState j h =
+      first-weighed (tabled table i work) light j h ∙ firstOf-survives table (to - from) from from to work noteworthy (ix .few-bits) j h
 
   -- they are those of its events
   pub start-atState : startAt (atState table i work) 0 ≡ from
-  unfolding atState highest
-  start-atState = closed-start from (surveyed table (to - from) from (opened to work)) state-small 0 (omega arith)
+  unfolding atState weighed tabled highest
+  start-atState =
+      start-weighed (tabled table i work) light 0 (omega arith)
+      ∙ closed-start from (surveyed table (to - from) from (opened to work)) state-small 0 (omega arith)
 
   pub end-atState : endAt (atState table i work) ≡ to
   end-atState = state-ready .ends
+
+  light-atState : lightAt (atState table i work) ≡ light
+  unfolding atState weighed
+  light-atState = light-weighed (tabled table i work) light (tabled-small .enough)
+
+  some-of : (b : Bool) (x : ℕ) → b ≡ ltb from to → 1 ≤ cond b x 0 → from < to
+  some-of true x e h = ltb→lt from to (subst T e tt)
+  some-of false x e h = absurd (omega arith)
+
+  some-events : 1 ≤ light → from < to
+  unfolding lightFrom
+  some-events h = some-of (ltb from to) (lightOf (tabled table i work) (getD table from noEvent) from) refl h
+
+  light-is : from < to → light ≡ lightOf (tabled table i work) (getD table from noEvent) from
+  unfolding lightFrom
+  light-is h = cond-true (ltb from to) (lightOf (tabled table i work) (getD table from noEvent) from) 0 (lt→ltb from to h)
+
+  -- where the table tells something of the zero loop, it is so
+  state-calming : 1 ≤ lightAt (atState table i work) → Calming table (atState table i work)
+  state-calming h =
+      let told : 1 ≤ light = subst (λ (x : ℕ). 1 ≤ x) light-atState h in
+      let some : from < to = some-events told in
+      let is : light ≡ lightOf (tabled table i work) (getD table from noEvent) from = light-is some in
+      let told′ : 1 ≤ lightOf (tabled table i work) (getD table from noEvent) from = subst (λ (x : ℕ). 1 ≤ x) is told in
+      let loop = first-loop table (tabled table i work) from to tabled-ready seg told′ in
+      let start = start-atState in
+      let end = end-atState in
+      record {
+        some = omega arith;
+        loop = subst (λ (x : ℕ). T (isZeroLoop (getD table x noEvent))) (sym start) (loop-told (getD table from noEvent) loop);
+        weighs = λ k g below. subst (λ (x : ℕ). x ≤ getD table k noEvent .weight) (sym (light-atState ∙ is))
+            (weighs-least table (tabled table i work) from to tabled-ready seg told′ k (omega arith) (omega arith));
+      }
 
   state-joinable : (k : ℕ) → startAt (atState table i work) 0 ≤ k → k < endAt (atState table i work)
       → Joinable (bitsAt (atState table i work)) (getD table k noEvent)
@@ -90,6 +142,7 @@ module _ {table : List Event} {work : List ℕ} (ix : Indexed table work) (i : �
     inside = subst (λ (x : ℕ). x ≤ length table) (sym end-atState) (state-noted .inside);
     segment = state-segment;
     joinable = state-joinable;
+    calming = state-calming;
   }
 
   -- the states' places are as they were

@@ -8,7 +8,7 @@ ghost use Rattle.paths.specs.Model.Joining.{turns, firstOr};
 ghost use Rattle.bounds.specs.Model.Places.{areaSize};
 ghost use Rattle.bounds.specs.Model.Tables.{bitsAt, endAt, surveyed, Small};
 ghost use Rattle.rotations.specs.Model.Put.{puts};
-ghost use Rattle.chains.specs.Model.Chaining.{inputsOf, extended, found, foundBy, unbegun, stateListed, weightListed, Noted, ToExtend, ToEmit, ToJoin, ToChain, ToListState, ToListWeight};
+ghost use Rattle.chains.specs.Model.Chaining.{inputsOf, extended, found, foundBy, unbegun, weighed, stateListed, weightListed, Noted, ToExtend, ToEmit, ToJoin, ToChain, ToListState, ToListWeight};
 use bounds::BITS_AT;
 use bounds::COMPLETE;
 use bounds::Chain;
@@ -21,6 +21,8 @@ use bounds::first_of;
 use bounds::follow;
 use bounds::note;
 use bounds::open_state;
+use bounds::weigh_none;
+use bounds::weigh_others;
 use events::Event;
 use events::event_at;
 use poly::word::make;
@@ -144,6 +146,19 @@ pub fn survey(events: &[Event], work: &mut [u64], from: usize, to: usize)
     }
 }
 
+// Once the tables of a state are closed, whose events stand from place `from` to before place `to`: what those weigh at least that are not the zero loop.
+fn weigh_state(events: &[Event], work: &mut [u64], from: usize, to: usize)
+    requires { ⌜ Small (now work) × Noted (now events) from to ⌝ }
+    ensures { λ _. ⌜ now (work .exit) ≡ weighed (now (events .entry)) from to (now (work .entry)) ⌝ }
+{
+    if from < to {
+        let e = event_at(events, from);
+        weigh_others(work, e, from);
+        return;
+    }
+    weigh_none(work);
+}
+
 // The words of weight w whose smallest state is i are appended at `at`; the position after them.
 fn list_state(
     events: &[Event],
@@ -162,6 +177,7 @@ fn list_state(
     open_state(work, to);
     survey(events, work, from, to);
     close_state(work, from);
+    weigh_state(events, work, from, to);
     let begun = unbegun(work, first, w);
     chain(events, work, paths, at, begun)
 }

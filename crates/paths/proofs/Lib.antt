@@ -7,5 +7,6 @@ pub mod ChainLoops
 pub mod Arises
 pub mod Words
 pub mod Pruned
+pub mod UsedUp
 pub mod Theorem
 pub mod Passed

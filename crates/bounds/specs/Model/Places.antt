@@ -51,9 +51,13 @@ bitsPlace = 2048
 abbrev pub endPlace : ℕ
 endPlace = 2049
 
+-- 0; or, where the first event of the state at hand is the zero loop and no other has length 1, a weight that no other event of the state is below
+abbrev pub lightPlace : ℕ
+lightPlace = 2050
+
 -- the numbers that the tables take
 abbrev pub areaSize : ℕ
-areaSize = endPlace + 1
+areaSize = lightPlace + 1
 
 -- ---- the tables as regions
 
@@ -85,5 +89,8 @@ bitsCell = record { start = bitsPlace; size = 1 }
 abbrev pub endCell : Region
 endCell = record { start = endPlace; size = 1 }
 
+abbrev pub lightCell : Region
+lightCell = record { start = lightPlace; size = 1 }
+
 abbrev pub regions : List Region
-regions = firsts ∷ stateEnds ∷ leasts ∷ lengthEnds ∷ starts ∷ fills ∷ bitsCell ∷ endCell ∷ []
+regions = firsts ∷ stateEnds ∷ leasts ∷ lengthEnds ∷ starts ∷ fills ∷ bitsCell ∷ endCell ∷ lightCell ∷ []

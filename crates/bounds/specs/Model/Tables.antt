@@ -2,7 +2,7 @@
 -- Assumes nothing.
 use Prim.Native.Nat.{ℕ, zero, suc, _+_, _-_, _^_, _≤_, _<_, min, max}
 use mathlib.Core.Path.{_≡_}
-use mathlib.Core.Bool.{cond, _&&_}
+use mathlib.Core.Bool.{Bool, cond, _&&_, _||_}
 use mathlib.Core.List.{List}
 use lib.Dec.{leb, ltb, eqb}
 use lib.ListN.{length, getD, set}
@@ -10,7 +10,7 @@ use Rattle.events.specs.declared.Event.{Event}
 use Rattle.events.specs.Events.{noEvent}
 use Rattle.bounds.specs.declared.Chain.{Chain}
 use Rattle.code.specs.Model.Steps.{mostSteps}
-use Rattle.bounds.specs.Model.Places.{lengthCount, stateCount, tooHeavy, firstPlace, stateEndPlace, leastPlace, lengthEndPlace, startPlace, fillPlace, bitsPlace, endPlace, areaSize}
+use Rattle.bounds.specs.Model.Places.{lengthCount, stateCount, tooHeavy, firstPlace, stateEndPlace, leastPlace, lengthEndPlace, startPlace, fillPlace, bitsPlace, endPlace, lightPlace, areaSize}
 
 -- the first event of state i or above
 abbrev pub firstOf : List ℕ → ℕ → ℕ
@@ -30,6 +30,9 @@ bitsAt work = getD work bitsPlace 0
 
 abbrev pub endAt : List ℕ → ℕ
 endAt work = getD work endPlace 0
+
+abbrev pub lightAt : List ℕ → ℕ
+lightAt work = getD work lightPlace 0
 
 -- ---- noting events
 
@@ -79,6 +82,21 @@ indexed bits work = set (carried stateEndPlace firstPlace stateCount 0 work) bit
 unfoldable pub closed : ℕ → List ℕ → List ℕ
 closed from work = filled (carried lengthEndPlace startPlace lengthCount from work)
 
+-- ---- the zero loop
+
+-- an event of one step that weighs nothing, whose input is 0
+unfoldable pub isZeroLoop : Event → Bool
+isZeroLoop e = eqb (e .length) 1 && (eqb (e .weight) 0 && (eqb (e .low) 0 && eqb (e .high) 0))
+
+-- the least weight of an event of n lengths from 2 on
+unfoldable pub lightest : List ℕ → ℕ → ℕ
+lightest work zero = tooHeavy
+lightest work (suc n) = min (lightest work n) (leastAt work (n + 2))
+
+-- where e, the first event of the state, is the zero loop, and no other of one step follows it: the least weight of the others
+unfoldable pub lightOf : List ℕ → Event → ℕ → ℕ
+lightOf work e from = cond (isZeroLoop e && eqb (startAt work 2) (from + 1)) (lightest work (lengthCount - 2)) 0
+
 -- ---- which events are looked at
 
 -- the place of the first length from l on, n lengths in all, that may begin a chain of `left` steps that weighs `budget`
@@ -100,7 +118,8 @@ following work at room begun l k =
     let longer = nextLength work (begun .steps) (begun .budget) (l + 1) in
     cond (ltb room at) (endAt work) (cond (ltb (k + 1) (startAt work (l + 1))) (k + 1) longer)
 
--- what an event comes to: it is passed over, it completes a chain, or it is joined and more follow
+-- What an event comes to: it is passed over, it completes a chain, or it is joined and more follow. A chain is complete too where its weight is used up and
+-- only zero loops can follow; and no event follows that weighs more than is left.
 abbrev pub skipped : ℕ
 skipped = 0
 
@@ -115,7 +134,8 @@ decided work begun e =
     let last : ℕ = cond (eqb (e .weight) (begun .budget)) complete skipped in
     let more : ℕ = cond (leb (e .weight + fillAt work (begun .steps - e .length)) (begun .budget)) continued skipped in
     let fits = leb (e .length) (begun .steps) && leb (e .weight) (begun .budget) in
-    cond fits (cond (eqb (e .length) (begun .steps)) last more) skipped
+    let ends = eqb (e .length) (begun .steps) || ltb (begun .budget - e .weight) (lightAt work) in
+    cond fits (cond ends last more) skipped
 
 -- ---- what the tables promise
 
@@ -165,6 +185,11 @@ pub record ToFollow (work : List ℕ) (begun : Chain) (l k : ℕ) : Type 0 where
   pub steps-small : begun .steps ≤ mostSteps
   pub length-small : l ≤ mostSteps
   pub next-fits : k + 1 < 2 ^ 64
+
+-- by `weigh_others`
+pub record ToWeigh (work : List ℕ) (from : ℕ) : Type 0 where
+  pub small : Small work
+  pub next-fits : from + 1 < 2 ^ 64
 
 -- by `decide`
 pub record ToDecide (work : List ℕ) (begun : Chain) (e : Event) : Type 0 where

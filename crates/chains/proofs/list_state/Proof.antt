@@ -11,8 +11,9 @@ use Rattle.bounds.proofs.open_state.Met as open-state
 use Rattle.bounds.proofs.close_state.Met as close-state
 use Rattle.bounds.proofs.Plains.{Chain}
 use Rattle.chains.specs.Model.Chaining.{atState}
-use Rattle.chains.proofs.list_state.Proof.Steps.{Bounds, asks-survey, asks-close, closed-is-state, asks-unbegun, asks-chain, listed-state}
+use Rattle.chains.proofs.list_state.Proof.Steps.{Bounds, asks-survey, asks-close, asks-weigh, weighed-is-state, asks-unbegun, asks-chain, listed-state}
 use Rattle.chains.proofs.survey.Met as survey
+use Rattle.chains.proofs.weigh_state.Met as weigh-state
 use Rattle.chains.proofs.unbegun.Met as unbegun
 use Rattle.chains.proofs.chain.Met as chain
 use Rattle.chains.proofs.list_state as list-state
@@ -66,8 +67,13 @@ module _ {M : Type 1} (𝓤 : URA M) (H : Heap 𝓤) (𝓜 : Model 𝓤 H) (𝓖
       relend ! 3 work refl refl $
       let closing : List Par = mut work vs kv ∷ res number f f-ok ∷ [] in
       calls-into 𝓣 ! 3 (1 ∷ []) closing nothing (just vunit) (λ xs. close-state.met 𝓤 H 𝓜 𝓖 𝓡 (bound closing xs, tt))
-      (asks (givenOf 𝓤 H 𝓜 𝓖) (asks-close ask b is-us is-vs)) tt refl refl (λ _ _ (ws, _) is-ws (kw, _).
-      let is-state : ws ≡ atState (events .was) (i .it) (work .was) = closed-is-state ask b is-us is-vs is-ws in
+      (asks (givenOf 𝓤 H 𝓜 𝓖) (asks-close ask b is-us is-vs)) tt refl refl (λ _ _ (cs, _) is-cs (kc, _).
+      -- what is not the zero loop is weighed
+      relend ! 3 work refl refl $
+      let weighing : List Par = the events ∷ mut work cs kc ∷ res number f f-ok ∷ res number t t-ok ∷ [] in
+      calls-into 𝓣 ! 3 (0 ∷ 1 ∷ []) weighing nothing (just vunit) (λ xs. weigh-state.met 𝓤 H 𝓜 𝓖 𝓡 (bound weighing xs, tt))
+      (asks (givenOf 𝓤 H 𝓜 𝓖) (asks-weigh ask b is-us is-vs is-cs, asks-survey ask b)) tt refl refl (λ _ _ (ws, _) is-ws (kw, _).
+      let is-state : ws ≡ atState (events .was) (i .it) (work .was) = weighed-is-state ask b is-us is-vs is-cs is-ws in
       -- a chain that is not begun, and all that go on
       relend ! 3 work refl refl $
       shares-at ! tt 1 work ws kw refl (λ z.
@@ -80,7 +86,7 @@ module _ {M : Type 1} (𝓤 : URA M) (H : Heap 𝓤) (𝓜 : Model 𝓤 H) (𝓖
       (asks (givenOf 𝓤 H 𝓜 𝓖) (asks-chain ask is-state is-begun)) tt refl refl (λ r r-ok (ls, _) is-r (kl, _).
       unshares-at ! tt 1 work ws kw z refl $
       finish 𝓣 ! 3 (ends r r-ok (ws, (ls, tt)) (kw, (kl, tt))
-      (listed-state ask is-state is-begun is-r)) refl refl)))))))))))
+      (listed-state ask is-state is-begun is-r)) refl refl))))))))))))
 
 pub list-state-spec : {M : Type 1} → stated.statement M
 unfolding code.routine

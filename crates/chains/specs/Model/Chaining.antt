@@ -2,7 +2,9 @@
 -- Assumes nothing.
 use Prim.Native.Nat.{ℕ, zero, suc, _+_, _-_, _*_, _/_, _%_, _^_, _≤_, _<_}
 use mathlib.Core.List.{List, [], _++_, map}
-use lib.ListN.{length, getD}
+use mathlib.Core.Bool.{cond}
+use lib.Dec.{T, ltb}
+use lib.ListN.{length, getD, set}
 use Rattle.lists.specs.Lists.{upFrom}
 use Rattle.events.specs.declared.Event.{Event}
 use Rattle.events.specs.Events.{ErrorEvent, noEvent}
@@ -11,8 +13,8 @@ use Rattle.paths.specs.Model.Joining.{firstOr, joining, joined}
 use Rattle.rotations.specs.Model.Put.{puts, ShortToTurn}
 use Rattle.bounds.specs.declared.Chain.{Chain}
 use Rattle.code.specs.Model.Steps.{mostSteps}
-use Rattle.bounds.specs.Model.Places.{stateCount, tooHeavy, areaSize}
-use Rattle.bounds.specs.Model.Tables.{firstOf, startAt, fillAt, bitsAt, endAt, surveyed, opened, closed, Fits, Small, Ready, Segment}
+use Rattle.bounds.specs.Model.Places.{stateCount, tooHeavy, lightPlace, areaSize}
+use Rattle.bounds.specs.Model.Tables.{firstOf, startAt, fillAt, bitsAt, endAt, lightAt, surveyed, opened, closed, isZeroLoop, lightOf, Fits, Small, Ready, Segment}
 
 -- a chain weighs at most
 abbrev pub mostWeight : ℕ
@@ -62,12 +64,23 @@ unbegun N first w = record { first = first; steps = N; budget = w; low = 0; high
 
 -- ---- state by state
 
--- the tables of state i
-unfoldable pub atState : List Event → ℕ → List ℕ → List ℕ
-atState table i work =
+-- the tables of state i, closed
+unfoldable pub tabled : List Event → ℕ → List ℕ → List ℕ
+tabled table i work =
     let from : ℕ = firstOf work i in
     let to : ℕ = firstOf work (i + 1) in
     closed from (surveyed table (to - from) from (opened to work))
+
+-- what the events of a state weigh at least beside the zero loop, where that is their first; 0 where it is not
+unfoldable pub lightFrom : List Event → ℕ → ℕ → List ℕ → ℕ
+lightFrom table from to work = cond (ltb from to) (lightOf work (getD table from noEvent) from) 0
+
+unfoldable pub weighed : List Event → ℕ → ℕ → List ℕ → List ℕ
+weighed table from to work = set work lightPlace (lightFrom table from to work)
+
+-- the tables of state i
+unfoldable pub atState : List Event → ℕ → List ℕ → List ℕ
+atState table i work = weighed table (firstOf work i) (firstOf work (i + 1)) (tabled table i work)
 
 -- the work area after n states from i on
 unfoldable pub afterStates : List Event → ℕ → ℕ → List ℕ → List ℕ
@@ -113,12 +126,19 @@ pub record Indexed (table : List Event) (work : List ℕ) : Type 0 where
   pub segment : (i : ℕ) → i < stateCount → Segment table (firstOf work i) (firstOf work (i + 1))
   pub joinable : (k : ℕ) → k < firstOf work stateCount → Joinable (bitsAt work) (getD table k noEvent)
 
+-- the first event at hand is the zero loop, and the others weigh at least what the table says
+pub record Calming (table : List Event) (work : List ℕ) : Type 0 where
+  pub some : startAt work 0 < endAt work
+  pub loop : T (isZeroLoop (getD table (startAt work 0) noEvent))
+  pub weighs : (k : ℕ) → startAt work 0 < k → k < endAt work → lightAt work ≤ getD table k noEvent .weight
+
 -- the tables are those of the events at hand
 pub record Joins (table : List Event) (work : List ℕ) : Type 0 where
   pub ready : Ready table work (startAt work 0) (endAt work)
   pub inside : endAt work ≤ length table
   pub segment : Segment table (startAt work 0) (endAt work)
   pub joinable : (k : ℕ) → startAt work 0 ≤ k → k < endAt work → Joinable (bitsAt work) (getD table k noEvent)
+  pub calming : 1 ≤ lightAt work → Calming table work
 
 -- a chain begun that is not whole
 pub record Unfinished (N : ℕ) (begun : Chain) : Type 0 where

@@ -8,9 +8,9 @@ use Rattle.events.specs.declared.Event.{Event}
 use Rattle.rotations.specs.Model.Put.{puts}
 use Rattle.bounds.specs.declared.Chain.{Chain}
 use Rattle.bounds.specs.Model.Tables.{firstOf, bitsAt, surveyed, opened, closed, Small}
-use Rattle.chains.specs.Model.Chaining.{atState, found, unbegun, stateListed, Noted, ToChain, ToListState}
+use Rattle.chains.specs.Model.Chaining.{tabled, weighed, atState, found, unbegun, stateListed, Noted, ToChain, ToListState}
 use Rattle.chains.proofs.Unfinished.{unbegun-unfinished}
-use Rattle.chains.proofs.States.{state-noted, state-small, state-ready, bits-atState, joins-at-state}
+use Rattle.chains.proofs.States.{state-noted, state-small, tabled-small, state-ready, bits-atState, joins-at-state}
 
 -- where the state's events begin, and where they end
 pub record Bounds (work : List ℕ) (i : ℕ) : Type 0 where
@@ -34,9 +34,19 @@ module _ {table : List Event} {work paths : List ℕ} {at i first w : ℕ} (ask 
       pub asks-close : Small vs
       asks-close = subst Small (sym noted-is) (state-small (ask .indexed) i (ask .state-small))
 
-      pub closed-is-state : {ws : List ℕ} → ws ≡ closed (b .from) vs → ws ≡ atState table i work
-      unfolding atState
-      closed-is-state is = is ∙ ap₂ closed (b .is-from) noted-is
+      module _ {cs : List ℕ} (is-cs : cs ≡ closed (b .from) vs) where
+        closed-is : cs ≡ tabled table i work
+        unfolding tabled
+        closed-is = is-cs ∙ ap₂ closed (b .is-from) noted-is
+
+        pub asks-weigh : Small cs
+        asks-weigh = subst Small (sym closed-is) (tabled-small (ask .indexed) i (ask .state-small))
+
+        pub weighed-is-state : {ws : List ℕ} → ws ≡ weighed table (b .from) (b .to) cs → ws ≡ atState table i work
+        unfolding atState
+        weighed-is-state is =
+            is ∙ ap₂ (λ (x y : ℕ). weighed table x y cs) (b .is-from) (b .is-to)
+            ∙ ap (weighed table (firstOf work i) (firstOf work (i + 1))) closed-is
 
   module _ {ws : List ℕ} (is-ws : ws ≡ atState table i work) where
     pub asks-unbegun : Small ws
