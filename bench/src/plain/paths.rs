@@ -69,6 +69,9 @@ struct State<'a> {
     least: [u8; 256],
     /// By steps: no chain weighs less.
     fill: [u8; 256],
+    /// Where the zero loop is the only event of one step: no other event weighs
+    /// less. 0 where it is not.
+    light: u8,
 }
 
 impl<'a> State<'a> {
@@ -80,6 +83,7 @@ impl<'a> State<'a> {
             starts: [events.len(); 257],
             least: [NEVER; 256],
             fill: [0; 256],
+            light: 0,
         };
         let mut known = 0;
         for (at, e) in events.iter().enumerate() {
@@ -93,6 +97,10 @@ impl<'a> State<'a> {
         for k in 1..=code.steps() {
             let sums = (1..=k).map(|l| state.least[l].saturating_add(state.fill[k - l]));
             state.fill[k] = sums.min().unwrap_or(NEVER);
+        }
+        let loops = events.iter().take_while(|e| e.length == 1).count();
+        if loops == 1 && events[0].weight == 0 && events[0].input() == 0 {
+            state.light = state.least[2..].iter().copied().min().unwrap_or(NEVER);
         }
         state
     }
@@ -113,10 +121,13 @@ impl<'a> State<'a> {
                 }
                 // From place 128 on there are zero loops alone.
                 let word = word | e.input().wrapping_shl(place.into());
-                if l < left {
+                // What is left is used up by zero loops alone, or by nothing.
+                if l == left || budget - weight < self.light {
+                    if weight == budget && word != 0 {
+                        self.turns(word, first, found);
+                    }
+                } else {
                     self.chain(left - l, budget - weight, word, first, found);
-                } else if weight == budget && word != 0 {
-                    self.turns(word, first, found);
                 }
             }
             from = l + 1;
