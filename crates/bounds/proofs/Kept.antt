@@ -9,8 +9,8 @@ use lib.ListN.{length, getD, set}
 use Rattle.events.specs.declared.Event.{Event}
 use Rattle.events.specs.Events.{noEvent}
 use Rattle.code.specs.Model.Steps.{mostSteps}
-use Rattle.bounds.specs.Model.Places.{lengthCount, stateCount, tooHeavy, firstPlace, stateEndPlace, leastPlace, lengthEndPlace, startPlace, fillPlace, bitsPlace, endPlace, Region, firsts, stateEnds, leasts, lengthEnds, starts, fills, bitsCell, endCell}
-use Rattle.bounds.specs.Model.Tables.{firstOf, leastAt, fillAt, bitsAt, noted, surveyed, resetFrom, opened, carried, leastSum, filledFrom, filled, indexed, closed, Fits, Small}
+use Rattle.bounds.specs.Model.Places.{lengthCount, stateCount, tooHeavy, firstPlace, stateEndPlace, leastPlace, lengthEndPlace, startPlace, fillPlace, bitsPlace, endPlace, Region, firsts, stateEnds, leasts, lengthEnds, starts, fills, bitsCell, endCell, wholes}
+use Rattle.bounds.specs.Model.Tables.{firstOf, leastAt, fillAt, bitsAt, wholeAt, noted, surveyed, resetFrom, opened, carried, leastSum, filledFrom, filled, indexed, closed, Fits, Small}
 use Rattle.bounds.proofs.Regions.{Keeps, keeps-all, keeps-then, keeps-set, keeps-also, keeps-within, kept}
 
 -- ---- noting events
@@ -118,6 +118,10 @@ module _ (table : List Event) (n k from to : ℕ) (work : List ℕ) (ok : Notewo
   firstOf-survives i h =
       kept state-keeps firsts tt i (omega arith) ∙ kept (surveyed-keeps table n k _ ok) firsts tt i (omega arith)
       ∙ kept (opened-keeps to work) firsts tt i (omega arith)
+
+  pub wholeAt-survives : (i : ℕ) → i < stateCount → wholeAt (closed from survey) i ≡ wholeAt work i
+  wholeAt-survives i h =
+      kept state-keeps wholes tt i h ∙ kept (surveyed-keeps table n k _ ok) wholes tt i h ∙ kept (opened-keeps to work) wholes tt i h
 
   pub bitsAt-survives : bitsAt (closed from survey) ≡ bitsAt work
   bitsAt-survives = kept state-keeps bitsCell tt 0 (omega arith) ∙ survey-bits

@@ -11,3 +11,4 @@ pub mod States
 pub mod Looked
 pub mod Weighed
 pub mod Plains
+pub mod Wholes

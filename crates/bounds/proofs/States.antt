@@ -10,8 +10,8 @@ use lib.Seq.{getD-set-other, getD-set-same}
 use Rattle.events.specs.declared.Event.{Event}
 use Rattle.events.specs.Events.{noEvent}
 use Rattle.code.specs.Model.Steps.{mostSteps}
-use Rattle.bounds.specs.Model.Places.{stateCount, firstPlace, stateEndPlace, fillPlace, bitsPlace, areaSize, stateEnds, fills}
-use Rattle.bounds.specs.Model.Tables.{firstOf, fillAt, bitsAt, surveyed, carried, indexed}
+use Rattle.bounds.specs.Model.Places.{stateCount, firstPlace, stateEndPlace, fillPlace, wholePlace, bitsPlace, areaSize, stateEnds, fills, wholes}
+use Rattle.bounds.specs.Model.Tables.{firstOf, fillAt, bitsAt, wholeAt, surveyed, carried, indexed}
 use Rattle.bounds.proofs.Regions.{kept}
 use Rattle.bounds.proofs.Kept.{Noteworthy, surveyed-keeps, carried-keeps, indexed-keeps}
 use Rattle.bounds.proofs.Survey.{LastOf, state-key, survey-last, survey-after}
@@ -116,6 +116,12 @@ module _ (table : List Event) (count bits size : ℕ) (room : areaSize ≤ size)
   pub states-bits : bitsAt (indexed bits (surveyed table count 0 (replicate size 0))) ≡ bits
   unfolding survey
   states-bits = indexed-bits bits survey survey-room
+
+  pub states-whole : (i : ℕ) → i < stateCount → wholeAt (indexed bits (surveyed table count 0 (replicate size 0))) i ≡ 0
+  unfolding survey
+  states-whole i h =
+      kept (indexed-keeps bits survey) wholes tt i h ∙ kept (surveyed-keeps table count 0 (replicate size 0) ok) wholes tt i h
+      ∙ getD-replicate size (wholePlace + i) 0 0 (omega arith)
 
   -- no chain is weighed yet
   pub states-fill : (k : ℕ) → k ≤ mostSteps → fillAt (indexed bits (surveyed table count 0 (replicate size 0))) k ≡ 0

@@ -11,8 +11,8 @@ use lib.Seq.{getD-set-same}
 use Rattle.events.specs.declared.Event.{Event}
 use Rattle.events.specs.Events.{noEvent}
 use Rattle.code.specs.Model.Steps.{mostSteps}
-use Rattle.bounds.specs.Model.Places.{lengthCount, stateCount, lightPlace, areaSize, firsts, leasts, starts, fills, bitsCell, endCell, lightCell}
-use Rattle.bounds.specs.Model.Tables.{firstOf, leastAt, startAt, fillAt, bitsAt, endAt, lightAt, lightest, lightOf, Small, Ready, Segment}
+use Rattle.bounds.specs.Model.Places.{lengthCount, stateCount, lightPlace, areaSize, firsts, leasts, starts, fills, bitsCell, endCell, lightCell, wholes}
+use Rattle.bounds.specs.Model.Tables.{firstOf, leastAt, startAt, fillAt, bitsAt, endAt, lightAt, wholeAt, lightest, lightOf, Small, Ready, Segment}
 use Rattle.bounds.proofs.Regions.{Keeps, keeps-set, kept}
 use Rattle.bounds.proofs.ZeroLoops.{ZeroLoop, lightest-le, light-means}
 
@@ -34,6 +34,9 @@ module _ (work : List ℕ) (x : ℕ) where
 
   pub first-weighed : (i : ℕ) → i ≤ stateCount → firstOf (set work lightPlace x) i ≡ firstOf work i
   first-weighed i h = kept keeps firsts tt i (omega arith)
+
+  pub whole-weighed : (i : ℕ) → i < stateCount → wholeAt (set work lightPlace x) i ≡ wholeAt work i
+  whole-weighed i h = kept keeps wholes tt i h
 
   pub start-weighed : (l : ℕ) → l ≤ lengthCount → startAt (set work lightPlace x) l ≡ startAt work l
   start-weighed l h = kept keeps starts tt l (omega arith)

@@ -7,7 +7,7 @@ ghost use Rattle.code.specs.Model.Steps.{mostSteps};
 ghost use mathlib.Core.Bool.{cond};
 ghost use lib.Dec.{eqb};
 ghost use Rattle.bounds.specs.Model.Places.{stateCount, lengthCount, lightPlace, areaSize};
-ghost use Rattle.bounds.specs.Model.Tables.{firstOf, noted, opened, carried, leastSum, filled, indexed, closed, isZeroLoop, lightest, lightOf, nextLength, beginning, following, complete, skipped, decided, Fits, Small, ToWeigh, ToLook, ToFollow, ToDecide};
+ghost use Rattle.bounds.specs.Model.Tables.{firstOf, noted, opened, carried, leastSum, filled, indexed, closed, isZeroLoop, lightest, lightOf, wholeAt, wholeKept, nextLength, beginning, following, complete, skipped, decided, Fits, Small, ToWeigh, ToLook, ToFollow, ToDecide};
 use events::Event;
 
 // ---- places of the work area, each where a table begins; specs/Model/Places.antt says what stands there
@@ -29,6 +29,8 @@ pub const BITS_AT: usize = 2048;
 pub const END_AT: usize = 2049;
 
 pub const LIGHT_AT: usize = 2050;
+
+const WHOLE_AT: usize = 2051;
 
 // How many states and how many lengths, 0 among them, the tables have.
 const STATES: usize = 256;
@@ -225,6 +227,24 @@ pub fn weigh_none(work: &mut [u64])
     ensures { λ _. ⌜ now (work .exit) ≡ set (now (work .entry)) lightPlace 0 ⌝ }
 {
     work[LIGHT_AT] = 0;
+}
+
+// A weight that no word of state i is below.
+pub fn whole_of(work: &[u64], i: usize) -> u64
+    requires { ⌜ (areaSize ≤ length (now work)) × (i < stateCount) ⌝ }
+    ensures { λ r. ⌜ r ≡ wholeAt (now (work .entry)) i ⌝ }
+{
+    work[WHOLE_AT + i]
+}
+
+// The tables at hand are those of state i: what all steps of a word weigh at least is kept.
+pub fn keep_whole(work: &mut [u64], i: usize)
+    requires { ⌜ Small (now work) × (i < stateCount) ⌝ }
+    ensures { λ _. ⌜ now (work .exit) ≡ wholeKept i (now (work .entry)) ⌝ }
+{
+    let bits = work[BITS_AT] as usize;
+    let w = work[FILL_AT + bits];
+    work[WHOLE_AT + i] = w;
 }
 
 // The place of the first event of state i or above.

@@ -14,6 +14,8 @@ use lib.Pow.{split}
 use lib.ListN.{length, getD}
 use Rattle.lists.specs.Lists.{upFrom}
 use Rattle.lists.proofs.Member.{upFrom-bounds}
+use Rattle.lists.proofs.Sorted.{Within}
+use Rattle.paths.specs.Chains.{steps, cost}
 use Rattle.lists.proofs.Tests.{T-and, passes-or-fails}
 use Rattle.lists.proofs.Blocks.{flatMap-cong-on, flatMap-map}
 use Rattle.lists.proofs.Choices.{cond-true, cond-false, eqb-differs}
@@ -21,7 +23,7 @@ use Rattle.events.specs.declared.Event.{Event}
 use Rattle.events.specs.Events.{ErrorEvent, noEvent}
 use Rattle.paths.specs.Model.Joining.{turns, firstOr, fitsIn, joining, joined}
 use Rattle.paths.proofs.Passed.{joining-more}
-use Rattle.paths.proofs.Pruned.{joined-drops}
+use Rattle.paths.proofs.Pruned.{joined-drops, fill-le-cost}
 use Rattle.paths.proofs.UsedUp.{Calm, used-up, too-light}
 use Rattle.bounds.specs.declared.Chain.{Chain}
 use Rattle.bounds.specs.Model.Tables.{startAt, endAt, bitsAt, leastAt, fillAt, lightAt, skipped, complete, decided}
@@ -63,7 +65,7 @@ module _ {table : List Event} {work : List ℕ} (joins : Joins table work) where
       let b = upFrom-bounds from (to - from) (h .1) in
       (h .0, (b .0, (omega arith, h .2)))
 
-  some-step : (e : ErrorEvent) → List·Memᴰ e es → 1 ≤ e .length
+  pub some-step : (e : ErrorEvent) → List·Memᴰ e (atHand table work) → 1 ≤ e .length
   unfolding errorEvent
   some-step e m =
       let h = at-hand e m in
@@ -80,6 +82,11 @@ module _ {table : List Event} {work : List ℕ} (joins : Joins table work) where
   drops : (fuel left acc first budget : ℕ) → left ≤ N → budget < fillAt work left → joined fuel es N left acc first budget ≡ []
   drops =
       joined-drops N es some-step (leastAt work) (fillAt work) (joins .ready .fill-zero) (joins .ready .fill-step) least-weighs
+
+  -- a chain weighs at least what the table says of its steps
+  pub least-whole : (c : List ErrorEvent) → Within c (atHand table work) → steps c ≤ bitsAt work → fillAt work (steps c) ≤ cost c
+  least-whole =
+      fill-le-cost N es some-step (leastAt work) (fillAt work) (joins .ready .fill-zero) (joins .ready .fill-step) least-weighs
 
   -- where the table tells something of it, the zero loop is the first event at hand, and the others weigh as much
   calm : 1 ≤ lightAt work → Calm (lightAt work) es

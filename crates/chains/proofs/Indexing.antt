@@ -21,7 +21,7 @@ use Rattle.code.specs.Model.Steps.{mostSteps}
 use Rattle.bounds.specs.Model.Places.{stateCount, areaSize}
 use Rattle.bounds.specs.Model.Tables.{firstOf, bitsAt, surveyed, indexed, Segment}
 use Rattle.bounds.proofs.Kept.{Noteworthy, surveyed-keeps, indexed-keeps}
-use Rattle.bounds.proofs.States.{states-indexed, firstOf-rises, firstOf-last, states-between, states-bits, states-fill}
+use Rattle.bounds.proofs.States.{states-indexed, firstOf-rises, firstOf-last, states-between, states-bits, states-fill, states-whole}
 use Rattle.chains.specs.Model.Chaining.{mostWeight, wordOf, Joinable, Indexed}
 use Rattle.chains.proofs.Slices.{getD-in, sorted-at}
 use Rattle.chains.proofs.Listed.{noErrorEvent, Delimits}
@@ -164,6 +164,7 @@ module _ {o c : Order} (no-longer : NoLonger o c) (some-bits : 1 ≤ stepsOf o) 
         subst (λ (x : ℕ). Joinable x (getD table k noEvent)) (sym bits-are) (subst (Joinable (stepsOf o)) (sym (entries k in-table))
         (entry-joinable c (stepsOf o) (event k) light
         (whole-shorter (stepsOf o) (stepsOf c) (event k) (no-more-steps no-longer) (whole (event k) (known k in-table))) (known k in-table)));
+    wholes = λ i h k m s. let z = states-whole table count (stepsOf o) size room noteworthy ordered i h in omega (arith, z);
   }
 
   pub delimits-order : Delimits o c table work

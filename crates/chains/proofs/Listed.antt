@@ -26,9 +26,9 @@ use Rattle.paths.specs.Model.Joining.{joined, unbegunFirst, stateWords, chainWo
 use Rattle.paths.proofs.Passed.{stateWords-among}
 use Rattle.bounds.specs.Model.Places.{stateCount}
 use Rattle.bounds.specs.Model.Tables.{firstOf, bitsAt}
-use Rattle.chains.specs.Model.Chaining.{errorEvent, atHand, atState, afterStates, found, foundFrom, unbegun, Indexed}
+use Rattle.chains.specs.Model.Chaining.{errorEvent, atHand, atState, afterState, afterStates, found, foundFrom, unbegun, Indexed}
 use Rattle.chains.proofs.Slices.{getD-in, PlaceOf, place-of, sorted-at, range-sorted}
-use Rattle.chains.proofs.States.{start-atState, end-atState, bits-atState, first-atState, indexed-at-state}
+use Rattle.chains.proofs.States.{start-atState, end-atState, bits-atState, indexed-after-state, bits-after-state, first-after-state}
 
 abbrev pub noErrorEvent : ErrorEvent
 noErrorEvent = record { state = 0; length = 0; weight = 0; input = 0 }
@@ -158,14 +158,14 @@ module _ (o c : Order) (table : List Event) (work : List ℕ) (d : Delimits o c 
         ∙ stateWords-among (d .no-longer) i w low
 
     -- the next state finds the same index
-    pub delimits-next : Delimits o c table (atState table i work)
-    delimits-next =
-        let same : (j : ℕ) → j ≤ stateCount → firstOf (atState table i work) j ≡ firstOf work j =
-        first-atState (d .indexed) i inside in
+    pub delimits-next : (w : ℕ) → Delimits o c table (afterState table w i work)
+    delimits-next w =
+        let same : (j : ℕ) → j ≤ stateCount → firstOf (afterState table w i work) j ≡ firstOf work j =
+        first-after-state (d .indexed) i inside w in
         record {
-          indexed = indexed-at-state (d .indexed) i inside;
+          indexed = indexed-after-state (d .indexed) i inside w;
           no-longer = d .no-longer;
-          bits = bits-atState (d .indexed) i inside ∙ d .bits;
+          bits = bits-after-state (d .indexed) i inside w ∙ d .bits;
           few-states = d .few-states;
           entries = d .entries;
           last = λ j h. subst (λ (x : ℕ). x ≤ count) (sym (same j h)) (d .last j h);
@@ -190,16 +190,16 @@ found-from o c table w zero i work d h = refl
 found-from o c table w (suc n) i work d h =
     let low : i < eventStates c = omega arith in
     ap₂ _++_ (found-is-stateWords o c table work d i low w)
-    (ap (λ (x : ℕ). foundFrom table (unbegunFirst o) w n x (atState table i work)) (add-one i) ∙ found-from o c table w n (suc i)
-    (atState table i work) (delimits-next o c table work d i low) (omega arith))
+    (ap (λ (x : ℕ). foundFrom table (unbegunFirst o) w n x (afterState table w i work)) (add-one i) ∙ found-from o c table w n (suc i)
+    (afterState table w i work) (delimits-next o c table work d i low w) (omega arith))
 
 -- the index stays, however many states were at hand
-pub delimits-after : (o c : Order) (table : List Event) (n i : ℕ) (work : List ℕ) → Delimits o c table work → i + n ≤ eventStates c
-    → Delimits o c table (afterStates table n i work)
+pub delimits-after : (o c : Order) (table : List Event) (w n i : ℕ) (work : List ℕ) → Delimits o c table work → i + n ≤ eventStates c
+    → Delimits o c table (afterStates table w n i work)
 unfolding afterStates
-delimits-after o c table zero i work d h = d
-delimits-after o c table (suc n) i work d h =
-    delimits-after o c table n (i + 1) (atState table i work) (delimits-next o c table work d i (omega arith)) (omega arith)
+delimits-after o c table w zero i work d h = d
+delimits-after o c table w (suc n) i work d h =
+    delimits-after o c table w n (i + 1) (afterState table w i work) (delimits-next o c table work d i (omega arith) w) (omega arith)
 
 pub foundFrom-is-chainWords : (o c : Order) (table : List Event) (work : List ℕ) (w : ℕ) → Delimits o c table work
     → foundFrom table (unbegunFirst o) w (eventStates o) 0 work ≡ chainWords o w

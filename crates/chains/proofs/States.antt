@@ -2,23 +2,32 @@
 -- Assumes nothing.
 use Prim.Native.Nat.{ℕ, _+_, _-_, _≤_, _<_}
 use native.Mathlib.Nat.{le-trans}
+use native.Mathlib.Decide.{ℕ-discrete}
 use native.Mathlib.Omega.{arith}
-use mathlib.Core.Path.{_≡_, refl, sym, ap, _∙_, subst}
+use mathlib.Core.Path.{_≡_, refl, sym, ap, ap₂, _∙_, subst}
 use mathlib.Core.Bool.{Bool, true, false, cond}
 use lib.Dec.{T, ltb, ltb→lt, lt→ltb}
 use Rattle.lists.proofs.Choices.{cond-true}
-use mathlib.Core.List.{List}
+use mathlib.Core.List.{List, [], map, List·Memᴰ}
+use Rattle.lists.specs.Lists.{upFrom}
+use Rattle.lists.proofs.Sorted.{Within}
+use Rattle.code.specs.Model.Steps.{mostSteps}
+use Rattle.events.specs.Events.{ErrorEvent}
+use Rattle.paths.specs.Chains.{steps, cost}
+use Rattle.paths.proofs.Pruned.{joined-none}
 use lib.ListN.{length, getD, set}
 use Rattle.events.specs.declared.Event.{Event}
 use Rattle.events.specs.Events.{noEvent}
-use Rattle.bounds.specs.Model.Places.{stateCount, lightPlace}
-use Rattle.bounds.specs.Model.Tables.{firstOf, startAt, endAt, bitsAt, lightAt, surveyed, opened, isZeroLoop, lightOf, Small, Ready, Segment}
-use Rattle.bounds.proofs.Kept.{Noteworthy, length-survives, firstOf-survives, bitsAt-survives}
+use Rattle.bounds.specs.Model.Places.{stateCount, tooHeavy, lightPlace}
+use Rattle.bounds.specs.Model.Tables.{firstOf, startAt, endAt, bitsAt, fillAt, lightAt, wholeAt, wholeKept, surveyed, opened, isZeroLoop, lightOf, Small, Ready, Segment}
+use Rattle.bounds.proofs.Kept.{Noteworthy, length-survives, firstOf-survives, wholeAt-survives, bitsAt-survives}
+use Rattle.bounds.proofs.Wholes.{length-kept, bits-kept, first-kept, fill-kept, whole-same, whole-other}
 use Rattle.bounds.proofs.Carried.{highest}
 use Rattle.bounds.proofs.ZeroLoops.{loop-told}
-use Rattle.bounds.proofs.Weighed.{length-weighed, bits-weighed, end-weighed, first-weighed, start-weighed, light-weighed, ready-weighed, first-loop, weighs-least}
+use Rattle.bounds.proofs.Weighed.{length-weighed, bits-weighed, end-weighed, first-weighed, whole-weighed, start-weighed, light-weighed, ready-weighed, first-loop, weighs-least}
 use Rattle.bounds.proofs.Ready.{segment-noteworthy, closed-start, segment-small, ready}
-use Rattle.chains.specs.Model.Chaining.{tabled, lightFrom, weighed, atState, Joinable, Calming, Joins, Noted, Indexed}
+use Rattle.chains.specs.Model.Chaining.{errorEvent, eventsBetween, atHand, found, unbegun, tabled, lightFrom, weighed, atState, afterState, Joinable, Calming, Joins, Noted, Indexed}
+use Rattle.chains.proofs.Found.{some-step, least-whole}
 
 module _ {table : List Event} {work : List ℕ} (ix : Indexed table work) (i : ℕ) (inside : i < stateCount) where
   abbrev from : ℕ
@@ -79,6 +88,11 @@ module _ {table : List Event} {work : List ℕ} (ix : Indexed table work) (i : �
   unfolding atState weighed tabled
   first-atState j h =
       first-weighed (tabled table i work) light j h ∙ firstOf-survives table (to - from) from from to work noteworthy (ix .few-bits) j h
+
+  whole-atState : (j : ℕ) → j < stateCount → wholeAt (atState table i work) j ≡ wholeAt work j
+  unfolding atState weighed tabled
+  whole-atState j h =
+      whole-weighed (tabled table i work) light j h ∙ wholeAt-survives table (to - from) from from to work noteworthy (ix .few-bits) j h
 
   -- they are those of its events
   pub start-atState : startAt (atState table i work) 0 ≡ from
@@ -145,26 +159,95 @@ module _ {table : List Event} {work : List ℕ} (ix : Indexed table work) (i : �
     calming = state-calming;
   }
 
-  -- the states' places are as they were
-  kept-segment : (j : ℕ) → j < stateCount
-      → Segment table (firstOf (atState table i work) j) (firstOf (atState table i work) (j + 1))
-  kept-segment j h =
-      subst (λ (x : ℕ). Segment table x (firstOf (atState table i work) (j + 1))) (sym (first-atState j (omega arith)))
-      (subst (λ (x : ℕ). Segment table (firstOf work j) x) (sym (first-atState (j + 1) (omega arith))) (ix .segment j h))
+  -- an area with this index
+  module _ (us : List ℕ) (size : length us ≡ length work) (same-bits : bitsAt us ≡ bitsAt work)
+      (same-first : (j : ℕ) → j ≤ stateCount → firstOf us j ≡ firstOf work j) (fill-small : (k : ℕ) → k ≤ mostSteps → fillAt us k ≤ tooHeavy)
+      (wholes : (j : ℕ) → j < stateCount → (c : List ErrorEvent)
+      → Within c (eventsBetween table (firstOf work j) (firstOf work (j + 1))) → steps c ≡ bitsAt work → wholeAt us j ≤ cost c) where
+    segments : (j : ℕ) → j < stateCount → Segment table (firstOf us j) (firstOf us (j + 1))
+    segments j h =
+        subst (λ (x : ℕ). Segment table x (firstOf us (j + 1))) (sym (same-first j (omega arith)))
+        (subst (λ (x : ℕ). Segment table (firstOf work j) x) (sym (same-first (j + 1) (omega arith))) (ix .segment j h))
+
+    indexed-as : Indexed table us
+    indexed-as = record {
+      enough = let e = ix .enough in omega (arith, size, e);
+      some-bits = let e = ix .some-bits in omega (arith, same-bits, e);
+      few-bits = let e = ix .few-bits in omega (arith, same-bits, e);
+      fill-small = fill-small;
+      rises = λ j l h g. let a = same-first j (omega arith) in let b = same-first l g in let c = ix .rises j l h g in omega (arith, a, b, c);
+      inside = let a = same-first stateCount (omega arith) in let c = ix .inside in omega (arith, a, c);
+      segment = segments;
+      joinable = λ k h. let a = same-first stateCount (omega arith) in subst (λ (N : ℕ). Joinable N (getD table k noEvent))
+          (sym same-bits) (ix .joinable k (omega (arith, a, h)));
+      wholes = λ j h c m s. wholes j h c
+          (λ e n. subst (List·Memᴰ e) (ap₂ (eventsBetween table) (same-first j (omega arith)) (same-first (j + 1) (omega arith))) (m e n)) (s ∙ same-bits);
+    }
+
+  -- the events at hand are those of the state
+  at-hand-between : atHand table (atState table i work) ≡ eventsBetween table from to
+  unfolding atHand eventsBetween
+  at-hand-between =
+      ap₂ (λ (x y : ℕ). map (λ k. errorEvent (getD table k noEvent)) (upFrom x (y - x))) start-atState end-atState
 
   pub indexed-at-state : Indexed table (atState table i work)
   indexed-at-state =
+      indexed-as (atState table i work) length-atState bits-atState first-atState (state-ready .small .fill-small)
+      (λ j h c m s. subst (λ (x : ℕ). x ≤ cost c) (sym (whole-atState j h)) (ix .wholes j h c m s))
+
+  -- what is kept of it
+  kept-whole : (j : ℕ) → j < stateCount → (c : List ErrorEvent) → Within c (eventsBetween table (firstOf work j) (firstOf work (j + 1)))
+      → steps c ≡ bitsAt work → wholeAt (wholeKept i (atState table i work)) j ≤ cost c
+  kept-whole j h c m s =
+      let us : List ℕ = atState table i work in
       let size = length-atState in
-      let same-bits = bits-atState in
-      record {
-        enough = let e = ix .enough in omega (arith, size, e);
-        some-bits = let e = ix .some-bits in omega (arith, same-bits, e);
-        few-bits = let e = ix .few-bits in omega (arith, same-bits, e);
-        fill-small = state-ready .small .fill-small;
-        rises = λ j l h g. let a = first-atState j (omega arith) in let b = first-atState l g in
-            let c = ix .rises j l h g in omega (arith, a, b, c);
-        inside = let a = first-atState stateCount (omega arith) in let c = ix .inside in omega (arith, a, c);
-        segment = kept-segment;
-        joinable = λ k h. let a = first-atState stateCount (omega arith) in subst (λ (N : ℕ). Joinable N (getD table k noEvent))
-            (sym same-bits) (ix .joinable k (omega (arith, a, h)));
-      }
+      let enough = ix .enough in
+      elim (ℕ-discrete j i) [
+        | yes same ↦
+            let at-hand : Within c (atHand table us) = λ e n. subst (List·Memᴰ e)
+            (ap (λ (x : ℕ). eventsBetween table (firstOf work x) (firstOf work (x + 1))) same ∙ sym at-hand-between) (m e n) in
+            let all : steps c ≡ bitsAt us = s ∙ sym bits-atState in
+            let least = least-whole joins-at-state c at-hand (omega arith) in
+            subst (λ (x : ℕ). x ≤ cost c) (sym (ap (wholeAt (wholeKept i us)) same ∙ whole-same us i inside (omega arith) ∙ ap (fillAt us) (sym all))) least
+        | no apart ↦ subst (λ (x : ℕ). x ≤ cost c) (sym (whole-other us i inside j apart ∙ whole-atState j h)) (ix .wholes j h c m s)
+      ]
+
+  indexed-kept : Indexed table (wholeKept i (atState table i work))
+  indexed-kept =
+      let us : List ℕ = atState table i work in
+      indexed-as (wholeKept i us) (length-kept us i inside ∙ length-atState) (bits-kept us i inside ∙ bits-atState)
+      (λ j h. first-kept us i inside j h ∙ first-atState j h)
+      (λ k h. subst (λ (x : ℕ). x ≤ tooHeavy) (sym (fill-kept us i inside k h)) (state-ready .small .fill-small k h)) kept-whole
+
+  -- ---- a state that may be passed over
+
+  module _ (w : ℕ) where
+    after-either : (P : List ℕ → Type 0) → P work → P (wholeKept i (atState table i work)) → P (afterState table w i work)
+    unfolding afterState
+    after-either P p q = by (ltb w (wholeAt work i))
+      where
+        by : (b : Bool) → P (cond b work (wholeKept i (atState table i work)))
+        by true = p
+        by false = q
+
+    pub indexed-after-state : Indexed table (afterState table w i work)
+    indexed-after-state = after-either (Indexed table) ix indexed-kept
+
+    pub bits-after-state : bitsAt (afterState table w i work) ≡ bitsAt work
+    bits-after-state =
+        after-either (λ us. bitsAt us ≡ bitsAt work) refl (bits-kept (atState table i work) i inside ∙ bits-atState)
+
+    pub first-after-state : (j : ℕ) → j ≤ stateCount → firstOf (afterState table w i work) j ≡ firstOf work j
+    first-after-state j h =
+        after-either (λ us. firstOf us j ≡ firstOf work j) refl (first-kept (atState table i work) i inside j h ∙ first-atState j h)
+
+    -- it has no word that is so light
+    pub passed-none : w < wholeAt work i → (first : ℕ) → found table (atState table i work) (unbegun (bitsAt work) first w) ≡ []
+    unfolding found unbegun
+    passed-none light first =
+        let us : List ℕ = atState table i work in
+        let same = bits-atState in
+        joined-none (bitsAt us) (atHand table us) (some-step joins-at-state) (bitsAt work) (bitsAt work) 0 first w (omega arith) (λ c f.
+        let costs = f .cost-is in
+        let least = ix .wholes i inside c (λ e n. subst (List·Memᴰ e) at-hand-between (f .from e n)) (f .steps-are) in
+        omega arith)

@@ -8,7 +8,7 @@ ghost use Rattle.paths.specs.Model.Joining.{turns, firstOr};
 ghost use Rattle.bounds.specs.Model.Places.{areaSize};
 ghost use Rattle.bounds.specs.Model.Tables.{bitsAt, endAt, surveyed, Small};
 ghost use Rattle.rotations.specs.Model.Put.{puts};
-ghost use Rattle.chains.specs.Model.Chaining.{inputsOf, extended, found, foundBy, unbegun, weighed, stateListed, weightListed, Noted, ToExtend, ToEmit, ToJoin, ToChain, ToListState, ToListWeight};
+ghost use Rattle.chains.specs.Model.Chaining.{inputsOf, extended, found, foundBy, unbegun, weighed, stateListed, lighterListed, weightListed, Noted, ToExtend, ToEmit, ToJoin, ToChain, ToListState, ToListWeight};
 use bounds::BITS_AT;
 use bounds::COMPLETE;
 use bounds::Chain;
@@ -19,10 +19,12 @@ use bounds::close_state;
 use bounds::decide;
 use bounds::first_of;
 use bounds::follow;
+use bounds::keep_whole;
 use bounds::note;
 use bounds::open_state;
 use bounds::weigh_none;
 use bounds::weigh_others;
+use bounds::whole_of;
 use events::Event;
 use events::event_at;
 use poly::word::make;
@@ -182,6 +184,28 @@ fn list_state(
     chain(events, work, paths, at, begun)
 }
 
+// The same, but a state is passed over that is known to have no word so light.
+fn list_lighter(
+    events: &[Event],
+    work: &mut [u64],
+    paths: &mut [u64],
+    at: usize,
+    i: usize,
+    first: u64,
+    w: u64,
+) -> usize
+    requires { ⌜ ToListState (now events) (now work) (now paths) at i first w ⌝ }
+    ensures { λ r. ⌜ (now (work .exit), (now (paths .exit), r)) ≡ lighterListed (now (events .entry)) first w i (now (work .entry)) (now (paths .entry), at) ⌝ }
+{
+    let whole = whole_of(work, i);
+    if w < whole {
+        return at;
+    }
+    let next = list_state(events, work, paths, at, i, first, w);
+    keep_whole(work, i);
+    next
+}
+
 // The nonzero words of weight w, which may be 0, are appended at `at`, state by state; the position after them.
 pub fn list_weight(
     events: &[Event],
@@ -198,7 +222,7 @@ pub fn list_weight(
     let mut next = at;
     let mut i = 0;
     while i < states {
-        next = list_state(events, work, paths, next, i, first, w);
+        next = list_lighter(events, work, paths, next, i, first, w);
         i += 1;
     }
     next

@@ -116,7 +116,7 @@ module _ (o : Order) (ok : Ordered o) (table : List Event) (from : TableFor o ta
 
       delimits-then : Delimits o c table ws′
       delimits-then =
-          subst (Delimits o c table) (sym (ap (λ (x : List ℕ × (List ℕ × ℕ)). x .0) left ∙ ap (λ (k : ℕ). afterStates table k 0 ws) (begins .all-states))) (delimits-after o c table (eventStates o) 0 ws (s .delimits) (whole (eventStates o) (eventStates c) (same-states (from .no-longer))))
+          subst (Delimits o c table) (sym (ap (λ (x : List ℕ × (List ℕ × ℕ)). x .0) left ∙ ap (λ (k : ℕ). afterStates table w k 0 ws) (begins .all-states))) (delimits-after o c table w (eventStates o) 0 ws (s .delimits) (whole (eventStates o) (eventStates c) (same-states (from .no-longer))))
         where
           whole : (x y : ℕ) → x ≡ y → 0 + x ≤ y
           whole x y e = omega arith

@@ -118,7 +118,7 @@ module _ (N : ℕ) (es : List ErrorEvent) (light : ℕ) (some-light : 1 ≤ ligh
       ⊎-elim (λ (p : e ≡ calm .loop). inl (ap (λ (x : ErrorEvent). x .weight) p ∙ calm .no-weight)) (λ n. inr (calm .weighs e n))
       (List·Memᴰ·cases-cons (subst (List·Memᴰ e) (calm .are) m))
 
-  cost-either : (c : List ErrorEvent) → Within c es → (cost c ≡ 0) ⊎ (light ≤ cost c)
+  pub cost-either : (c : List ErrorEvent) → Within c es → (cost c ≡ 0) ⊎ (light ≤ cost c)
   unfolding cost
   cost-either [] w = inl refl
   cost-either (e ∷ c) w =

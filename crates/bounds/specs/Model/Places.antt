@@ -55,9 +55,13 @@ endPlace = 2049
 abbrev pub lightPlace : ℕ
 lightPlace = 2050
 
+-- a weight that no word whose smallest state is each state is below, once its events were joined; 0 before
+abbrev pub wholePlace : ℕ
+wholePlace = 2051
+
 -- the numbers that the tables take
 abbrev pub areaSize : ℕ
-areaSize = lightPlace + 1
+areaSize = wholePlace + stateCount
 
 -- ---- the tables as regions
 
@@ -92,5 +96,8 @@ endCell = record { start = endPlace; size = 1 }
 abbrev pub lightCell : Region
 lightCell = record { start = lightPlace; size = 1 }
 
+abbrev pub wholes : Region
+wholes = record { start = wholePlace; size = stateCount }
+
 abbrev pub regions : List Region
-regions = firsts ∷ stateEnds ∷ leasts ∷ lengthEnds ∷ starts ∷ fills ∷ bitsCell ∷ endCell ∷ lightCell ∷ []
+regions = firsts ∷ stateEnds ∷ leasts ∷ lengthEnds ∷ starts ∷ fills ∷ bitsCell ∷ endCell ∷ lightCell ∷ wholes ∷ []

@@ -10,7 +10,7 @@ use Rattle.events.specs.declared.Event.{Event}
 use Rattle.events.specs.Events.{noEvent}
 use Rattle.bounds.specs.declared.Chain.{Chain}
 use Rattle.code.specs.Model.Steps.{mostSteps}
-use Rattle.bounds.specs.Model.Places.{lengthCount, stateCount, tooHeavy, firstPlace, stateEndPlace, leastPlace, lengthEndPlace, startPlace, fillPlace, bitsPlace, endPlace, lightPlace, areaSize}
+use Rattle.bounds.specs.Model.Places.{lengthCount, stateCount, tooHeavy, firstPlace, stateEndPlace, leastPlace, lengthEndPlace, startPlace, fillPlace, bitsPlace, endPlace, lightPlace, wholePlace, areaSize}
 
 -- the first event of state i or above
 abbrev pub firstOf : List ℕ → ℕ → ℕ
@@ -33,6 +33,10 @@ endAt work = getD work endPlace 0
 
 abbrev pub lightAt : List ℕ → ℕ
 lightAt work = getD work lightPlace 0
+
+-- a weight that no word of state i is below
+abbrev pub wholeAt : List ℕ → ℕ → ℕ
+wholeAt work i = getD work (wholePlace + i) 0
 
 -- ---- noting events
 
@@ -96,6 +100,10 @@ lightest work (suc n) = min (lightest work n) (leastAt work (n + 2))
 -- where e, the first event of the state, is the zero loop, and no other of one step follows it: the least weight of the others
 unfoldable pub lightOf : List ℕ → Event → ℕ → ℕ
 lightOf work e from = cond (isZeroLoop e && eqb (startAt work 2) (from + 1)) (lightest work (lengthCount - 2)) 0
+
+-- once a state's tables are closed: what all steps of a word weigh at least
+unfoldable pub wholeKept : ℕ → List ℕ → List ℕ
+wholeKept i work = set work (wholePlace + i) (fillAt work (bitsAt work))
 
 -- ---- which events are looked at
 

@@ -10,7 +10,7 @@ use Rattle.walks.proofs.Frame.{refl, List, [], _∷_, URA, Heap, Tables, Model,
 use Rattle.walks.proofs.Loops.{while, repeats}
 use Rattle.events.proofs.Event as T
 use Rattle.chains.proofs.list_weight.Proof.Turns.{Stage, stands-first, asks-state, stands-next, all-listed}
-use Rattle.chains.proofs.list_state.Met as list-state
+use Rattle.chains.proofs.list_lighter.Met as list-lighter
 use Rattle.chains.proofs.list_weight as list-weight
 use Rattle.chains.proofs.list_weight.Key as key
 use Rattle.chains.proofs.list_weight.Statement as stated
@@ -54,7 +54,7 @@ module _ {M : Type 1} (𝓤 : URA M) (H : Heap 𝓤) (𝓜 : Model 𝓤 H) (𝓖
       let ls : Par = mut paths (x .ls) (x .stands .same-ls) in
       let listing : List Par = the events ∷ us ∷ ls ∷ num (x .next) (x .next-fits) ∷ num (x .i) (x .i-fits) ∷ val first ∷ val w ∷ [] in
       calls-into 𝓣 ! 3 (0 ∷ 1 ∷ 2 ∷ []) listing number (just (vint w64 (x .next)))
-      (λ xs. list-state.met 𝓤 H 𝓜 𝓖 𝓡 (bound listing xs, tt))
+      (λ xs. list-lighter.met 𝓤 H 𝓜 𝓖 𝓡 (bound listing xs, tt))
       (asks (givenOf 𝓤 H 𝓜 𝓖) (asks-state ask x small)) tt refl refl (λ r is-r (us′, (ls′, _)) turn (same-us, (same-ls, _)).
       repeats ! 3 10 (bin ! (var ! 3 refl) (lit ! tt) (record { fits = later })) refl (tt, record { fits = later }) refl
       (back record {

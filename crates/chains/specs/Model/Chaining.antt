@@ -9,12 +9,15 @@ use Rattle.lists.specs.Lists.{upFrom}
 use Rattle.events.specs.declared.Event.{Event}
 use Rattle.events.specs.Events.{ErrorEvent, noEvent}
 use Rattle.paths.specs.Paths.{pathRoom}
+use Rattle.paths.specs.Chains.{steps, cost}
+use mathlib.Core.Path.{_≡_}
+use mathlib.Core.List.{List·Memᴰ}
 use Rattle.paths.specs.Model.Joining.{firstOr, joining, joined}
 use Rattle.rotations.specs.Model.Put.{puts, ShortToTurn}
 use Rattle.bounds.specs.declared.Chain.{Chain}
 use Rattle.code.specs.Model.Steps.{mostSteps}
 use Rattle.bounds.specs.Model.Places.{stateCount, tooHeavy, lightPlace, areaSize}
-use Rattle.bounds.specs.Model.Tables.{firstOf, startAt, fillAt, bitsAt, endAt, lightAt, surveyed, opened, closed, isZeroLoop, lightOf, Fits, Small, Ready, Segment}
+use Rattle.bounds.specs.Model.Tables.{firstOf, startAt, fillAt, bitsAt, endAt, lightAt, wholeAt, wholeKept, surveyed, opened, closed, isZeroLoop, lightOf, Fits, Small, Ready, Segment}
 
 -- a chain weighs at most
 abbrev pub mostWeight : ℕ
@@ -30,6 +33,10 @@ wordOf e = e .high * 2 ^ 64 + e .low
 
 unfoldable pub errorEvent : Event → ErrorEvent
 errorEvent e = record { state = e .state; length = e .length; weight = e .weight; input = wordOf e }
+
+-- the events from place `from` to before place `to`
+unfoldable pub eventsBetween : List Event → ℕ → ℕ → List ErrorEvent
+eventsBetween table from to = map (λ k. errorEvent (getD table k noEvent)) (upFrom from (to - from))
 
 -- the events of the state at hand
 unfoldable pub atHand : List Event → List ℕ → List ErrorEvent
@@ -82,24 +89,32 @@ weighed table from to work = set work lightPlace (lightFrom table from to work)
 unfoldable pub atState : List Event → ℕ → List ℕ → List ℕ
 atState table i work = weighed table (firstOf work i) (firstOf work (i + 1)) (tabled table i work)
 
+-- the work area after state i: as it was where no word of the state is so light; else its tables, and what a word weighs at least is kept
+unfoldable pub afterState : List Event → ℕ → ℕ → List ℕ → List ℕ
+afterState table w i work = cond (ltb w (wholeAt work i)) work (wholeKept i (atState table i work))
+
 -- the work area after n states from i on
-unfoldable pub afterStates : List Event → ℕ → ℕ → List ℕ → List ℕ
-afterStates table zero i work = work
-afterStates table (suc n) i work = afterStates table n (i + 1) (atState table i work)
+unfoldable pub afterStates : List Event → ℕ → ℕ → ℕ → List ℕ → List ℕ
+afterStates table w zero i work = work
+afterStates table w (suc n) i work = afterStates table w n (i + 1) (afterState table w i work)
 
 -- the words of weight w that n states from i on find
 unfoldable pub foundFrom : List Event → ℕ → ℕ → ℕ → ℕ → List ℕ → List ℕ
 foundFrom table first w zero i work = []
 foundFrom table first w (suc n) i work =
-    found table (atState table i work) (unbegun (bitsAt work) first w) ++ foundFrom table first w n (i + 1) (atState table i work)
+    found table (atState table i work) (unbegun (bitsAt work) first w) ++ foundFrom table first w n (i + 1) (afterState table w i work)
 
 -- the work area, and the words that state i finds appended to a path table
 abbrev pub stateListed : List Event → ℕ → ℕ → ℕ → List ℕ → List ℕ × ℕ → List ℕ × (List ℕ × ℕ)
 stateListed table first w i work s = (atState table i work, puts (found table (atState table i work) (unbegun (bitsAt work) first w)) s)
 
+-- the same where a state is passed over that has no word so light
+abbrev pub lighterListed : List Event → ℕ → ℕ → ℕ → List ℕ → List ℕ × ℕ → List ℕ × (List ℕ × ℕ)
+lighterListed table first w i work s = (afterState table w i work, puts (found table (atState table i work) (unbegun (bitsAt work) first w)) s)
+
 -- the same of n states from state 0 on
 abbrev pub weightListed : List Event → ℕ → ℕ → ℕ → List ℕ → List ℕ × ℕ → List ℕ × (List ℕ × ℕ)
-weightListed table first w n work s = (afterStates table n 0 work, puts (foundFrom table first w n 0 work) s)
+weightListed table first w n work s = (afterStates table w n 0 work, puts (foundFrom table first w n 0 work) s)
 
 -- ---- what is asked of the tables and of a chain begun
 
@@ -125,6 +140,8 @@ pub record Indexed (table : List Event) (work : List ℕ) : Type 0 where
   pub inside : firstOf work stateCount ≤ length table
   pub segment : (i : ℕ) → i < stateCount → Segment table (firstOf work i) (firstOf work (i + 1))
   pub joinable : (k : ℕ) → k < firstOf work stateCount → Joinable (bitsAt work) (getD table k noEvent)
+  pub wholes : (i : ℕ) → i < stateCount → (c : List ErrorEvent) → ((e : ErrorEvent) → List·Memᴰ e c → List·Memᴰ e (eventsBetween table (firstOf work i) (firstOf work (i + 1))))
+      → steps c ≡ bitsAt work → wholeAt work i ≤ cost c
 
 -- the first event at hand is the zero loop, and the others weigh at least what the table says
 pub record Calming (table : List Event) (work : List ℕ) : Type 0 where

@@ -12,20 +12,20 @@ use Rattle.rotations.specs.Model.Put.{puts}
 use Rattle.rotations.proofs.Puts.{puts-none, puts-append, length-puts, puts-place}
 use Rattle.bounds.specs.Model.Places.{stateCount}
 use Rattle.bounds.specs.Model.Tables.{bitsAt}
-use Rattle.chains.specs.Model.Chaining.{atState, afterStates, found, foundFrom, unbegun, stateListed, weightListed, Indexed, Near, ToListState, ToListWeight}
-use Rattle.chains.proofs.States.{bits-atState, indexed-at-state}
+use Rattle.chains.specs.Model.Chaining.{atState, afterState, afterStates, found, foundFrom, unbegun, lighterListed, weightListed, Indexed, Near, ToListState, ToListWeight}
+use Rattle.chains.proofs.States.{bits-after-state, indexed-after-state}
 
 -- what n states from i on leave
 abbrev pub listedFrom : List Event → ℕ → ℕ → ℕ → ℕ → List ℕ → List ℕ × ℕ → List ℕ × (List ℕ × ℕ)
-listedFrom table first w n i us s = (afterStates table n i us, puts (foundFrom table first w n i us) s)
+listedFrom table first w n i us s = (afterStates table w n i us, puts (foundFrom table first w n i us) s)
 
 one-state : (table : List Event) (first w n i : ℕ) (us : List ℕ) (s : List ℕ × ℕ)
     → listedFrom table first w (suc n) i us s ≡ listedFrom table first w n (i + 1)
-    (stateListed table first w i us s .0) (stateListed table first w i us s .1)
+    (lighterListed table first w i us s .0) (lighterListed table first w i us s .1)
 unfolding afterStates foundFrom
 one-state table first w n i us s =
-    ap (λ (y : List ℕ × ℕ). (afterStates table n (i + 1) (atState table i us), y))
-    (puts-append (found table (atState table i us) (unbegun (bitsAt us) first w)) (foundFrom table first w n (i + 1) (atState table i us)) s)
+    ap (λ (y : List ℕ × ℕ). (afterStates table w n (i + 1) (afterState table w i us), y))
+    (puts-append (found table (atState table i us) (unbegun (bitsAt us) first w)) (foundFrom table first w n (i + 1) (afterState table w i us)) s)
 
 module _ {table : List Event} {work paths : List ℕ} {at states first w : ℕ} (ask : ToListWeight table work paths at states first w) where
   -- at state i and position next, with the work area and the path table
@@ -74,7 +74,7 @@ module _ {table : List Event} {work paths : List ℕ} {at states first w : ℕ} 
       }
 
       module _ {us ls : List ℕ} {r : ℕ} (same-us : length us ≡ length work) (same-ls : length ls ≡ length paths)
-          (turn : (us, (ls, r)) ≡ stateListed table first w (x .i) (x .us) (x .ls, x .next)) where
+          (turn : (us, (ls, r)) ≡ lighterListed table first w (x .i) (x .us) (x .ls, x .next)) where
         abbrev words : List ℕ
         words = found table (atState table (x .i) (x .us)) (unbegun (bitsAt (x .us)) first w)
 
@@ -96,9 +96,9 @@ module _ {table : List Event} {work paths : List ℕ} {at states first w : ℕ} 
         pub stands-next : Stands (x .i + 1) r us ls
         stands-next = record {
           indexed = subst (Indexed table) (sym (ap (λ (y : List ℕ × (List ℕ × ℕ)). y .0) turn))
-              (indexed-at-state (x .stands .indexed) (x .i) few);
+              (indexed-after-state (x .stands .indexed) (x .i) few w);
           near = near-again;
-          same-bits = ap (λ (y : List ℕ × (List ℕ × ℕ)). bitsAt (y .0)) turn ∙ bits-atState (x .stands .indexed) (x .i) few
+          same-bits = ap (λ (y : List ℕ × (List ℕ × ℕ)). bitsAt (y .0)) turn ∙ bits-after-state (x .stands .indexed) (x .i) few w
               ∙ x .stands .same-bits;
           same-us = same-us;
           same-ls = same-ls;
