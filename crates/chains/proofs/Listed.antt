@@ -1,9 +1,9 @@
 -- What the chaining finds is what the model of the recursion joins (`paths`' specs/Model/Joining.antt), where the table holds the events of an order c, the
 -- order itself or the same for longer words, and the work area tells where each state's begin: state by state (`found-is-stateWords`), and over all
--- states that begin events (`foundFrom-is-chainWords`).
+-- states that begin events (`foundFrom-is-chainWords`). Of a longer order's events those are at hand that a word has the steps for (`at-hand-is`).
 -- Assumes nothing.
 use Prim.Native.Nat.{ℕ, zero, suc, _+_, _-_, _≤_, _<_}
-use native.Mathlib.Nat.{lt-of-lt-of-le}
+use native.Mathlib.Nat.{le-refl, lt-of-lt-of-le}
 use native.Mathlib.Numerals.{add-one}
 use native.Mathlib.Omega.{arith}
 use mathlib.Core.Path.{_≡_, refl, sym, ap, ap₂, _∙_, subst}
@@ -11,7 +11,7 @@ use mathlib.Core.Logic.{inl, inr}
 use mathlib.Core.List.{List, _++_, map, flatMap, List·Memᴰ, Memᴰ·map, Memᴰ·of-map}
 use lib.Pow.{split}
 use lib.ListN.{length, getD}
-use Rattle.lists.specs.Lists.{upFrom}
+use Rattle.lists.specs.Lists.{upFrom, filter}
 use Rattle.lists.proofs.Member.{upFrom-bounds, in-upFrom}
 use Rattle.lists.proofs.Sorted.{Sorted, sorted-known}
 use Rattle.code.specs.Links.{stepsOf, eventStates}
@@ -22,13 +22,14 @@ use Rattle.events.specs.declared.Event.{Event}
 use Rattle.events.specs.Events.{ErrorEvent, eventsOfState, events, entry, noEvent}
 use Rattle.events.proofs.Listed.{Within, Before, within-asymmetric, of-events, in-events, eventsOfState-sorted, events-sorted}
 use Rattle.events.proofs.OfState.{EventOf, mem-eventsOfState}
+use Rattle.events.proofs.Shorter.{atMost}
 use Rattle.paths.specs.Model.Joining.{joined, unbegunFirst, stateWords, chainWords}
-use Rattle.paths.proofs.Passed.{stateWords-among}
+use Rattle.paths.proofs.Passed.{joined-passes, stateWords-among}
 use Rattle.bounds.specs.Model.Places.{stateCount}
 use Rattle.bounds.specs.Model.Tables.{firstOf, bitsAt}
-use Rattle.chains.specs.Model.Chaining.{errorEvent, atHand, atState, afterState, afterStates, found, foundFrom, unbegun, Indexed}
+use Rattle.chains.specs.Model.Chaining.{errorEvent, eventsBetween, atHand, atState, afterState, afterStates, found, foundFrom, unbegun, Indexed}
 use Rattle.chains.proofs.Slices.{getD-in, PlaceOf, place-of, sorted-at, range-sorted}
-use Rattle.chains.proofs.States.{start-atState, end-atState, bits-atState, indexed-after-state, bits-after-state, first-after-state}
+use Rattle.chains.proofs.States.{bits-atState, fit-filters, at-hand-between, indexed-after-state, bits-after-state, first-after-state}
 
 abbrev pub noErrorEvent : ErrorEvent
 noErrorEvent = record { state = 0; length = 0; weight = 0; input = 0 }
@@ -143,17 +144,21 @@ module _ (o c : Order) (table : List Event) (work : List ℕ) (d : Delimits o c 
         sorted-known Within within-asymmetric (EventOf c i) slice (eventsOfState c i) slice-sorted (eventsOfState-sorted c i)
         (λ e. (of-slice e, in-slice e)) (λ e. mem-eventsOfState c i e low)
 
-    pub at-hand-is : atHand table (atState table i work) ≡ eventsOfState c i
-    unfolding atHand slice read
+    between-is : eventsBetween table from to ≡ eventsOfState c i
+    unfolding eventsBetween slice read
+    between-is = slice-is
+
+    -- those at hand are those that a word has the steps for
+    pub at-hand-is : atHand table (atState table i work) ≡ filter (atMost (bitsAt work)) (eventsOfState c i)
     at-hand-is =
-        ap₂ (λ (x y : ℕ). map (λ k. errorEvent (getD table k noEvent)) (upFrom x (y - x))) (start-atState (d .indexed) i inside)
-        (end-atState (d .indexed) i inside) ∙ slice-is
+        at-hand-between (d .indexed) i inside ∙ fit-filters (d .indexed) i inside ∙ ap (filter (atMost (bitsAt work))) between-is
 
     pub found-is-stateWords : (w : ℕ) → found table (atState table i work) (unbegun (bitsAt work) (unbegunFirst o) w) ≡ stateWords o i w
     unfolding found unbegun stateWords
     found-is-stateWords w =
         ap₂ (λ (es : List ErrorEvent) (N : ℕ). joined (bitsAt work) es N (bitsAt work) 0 (unbegunFirst o) w) at-hand-is
         (bits-atState (d .indexed) i inside)
+        ∙ sym (joined-passes (bitsAt work) (eventsOfState c i) (bitsAt work) (bitsAt work) 0 (unbegunFirst o) w (le-refl (bitsAt work)))
         ∙ ap (λ (N : ℕ). joined N (eventsOfState c i) N N 0 (unbegunFirst o) w) (d .bits)
         ∙ stateWords-among (d .no-longer) i w low
 

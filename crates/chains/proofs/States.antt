@@ -9,10 +9,11 @@ use mathlib.Core.Bool.{Bool, true, false, cond}
 use lib.Dec.{T, ltb, ltb→lt, lt→ltb}
 use Rattle.lists.proofs.Choices.{cond-true}
 use mathlib.Core.List.{List, [], map, List·Memᴰ}
-use Rattle.lists.specs.Lists.{upFrom}
+use Rattle.lists.specs.Lists.{upFrom, filter}
 use Rattle.lists.proofs.Sorted.{Within}
 use Rattle.code.specs.Model.Steps.{mostSteps}
 use Rattle.events.specs.Events.{ErrorEvent}
+use Rattle.events.proofs.Shorter.{atMost}
 use Rattle.paths.specs.Chains.{steps, cost}
 use Rattle.paths.proofs.Pruned.{joined-none}
 use lib.ListN.{length, getD, set}
@@ -26,24 +27,51 @@ use Rattle.bounds.proofs.Carried.{highest}
 use Rattle.bounds.proofs.ZeroLoops.{loop-told}
 use Rattle.bounds.proofs.Weighed.{length-weighed, bits-weighed, end-weighed, first-weighed, whole-weighed, start-weighed, light-weighed, ready-weighed, first-loop, weighs-least}
 use Rattle.bounds.proofs.Ready.{segment-noteworthy, closed-start, segment-small, ready}
-use Rattle.chains.specs.Model.Chaining.{errorEvent, eventsBetween, atHand, found, unbegun, tabled, lightFrom, weighed, atState, afterState, Joinable, Calming, Joins, Noted, Indexed}
+use Rattle.chains.specs.Model.Chaining.{errorEvent, eventsBetween, atHand, found, unbegun, stateEnd, tabled, lightFrom, weighed, atState, afterState, Joinable, Calming, Joins, Noted, Indexed}
 use Rattle.chains.proofs.Found.{some-step, least-whole}
+use Rattle.chains.proofs.Fitting.{fitting-after, fitting-inside, fitting-segment, fitting-filters, fitting-are, chain-fits}
 
 module _ {table : List Event} {work : List ℕ} (ix : Indexed table work) (i : ℕ) (inside : i < stateCount) where
   abbrev from : ℕ
   from = firstOf work i
 
   abbrev to : ℕ
-  to = firstOf work (i + 1)
+  to = stateEnd table i work
+
+  -- the place after the last event of the state, too long or not
+  abbrev next : ℕ
+  next = firstOf work (i + 1)
+
+  all-rising : from ≤ next
+  all-rising = ix .rises i (i + 1) (omega arith) (omega arith)
 
   rising : from ≤ to
-  rising = ix .rises i (i + 1) (omega arith) (omega arith)
+  unfolding stateEnd
+  rising = fitting-after table (bitsAt work) from next all-rising (ix .segment i inside)
 
   last : to ≤ firstOf work stateCount
-  last = ix .rises (i + 1) stateCount (omega arith) (omega arith)
+  unfolding stateEnd
+  last =
+      le-trans (fitting-inside table (bitsAt work) from next all-rising (ix .segment i inside))
+      (ix .rises (i + 1) stateCount (omega arith) (omega arith))
 
   seg : Segment table from to
-  seg = ix .segment i inside
+  unfolding stateEnd
+  seg = fitting-segment table (bitsAt work) from next all-rising (ix .segment i inside)
+
+  -- they are those that a word has the steps for
+  pub fit-filters : eventsBetween table (firstOf work i) (stateEnd table i work)
+      ≡ filter (atMost (bitsAt work)) (eventsBetween table (firstOf work i) (firstOf work (i + 1)))
+  unfolding stateEnd
+  fit-filters = fitting-filters table (bitsAt work) from next all-rising (ix .segment i inside)
+
+  fit-are : Within (eventsBetween table from to) (eventsBetween table from next)
+  unfolding stateEnd
+  fit-are = fitting-are table (bitsAt work) from next all-rising (ix .segment i inside)
+
+  chain-fit : (c : List ErrorEvent) → Within c (eventsBetween table from next) → steps c ≡ bitsAt work → Within c (eventsBetween table from to)
+  unfolding stateEnd
+  chain-fit = chain-fits table (bitsAt work) from next all-rising (ix .segment i inside)
 
   noteworthy : Noteworthy table (to - from) from
   noteworthy = segment-noteworthy table from to rising seg
@@ -184,8 +212,8 @@ module _ {table : List Event} {work : List ℕ} (ix : Indexed table work) (i : �
           (λ e n. subst (List·Memᴰ e) (ap₂ (eventsBetween table) (same-first j (omega arith)) (same-first (j + 1) (omega arith))) (m e n)) (s ∙ same-bits);
     }
 
-  -- the events at hand are those of the state
-  at-hand-between : atHand table (atState table i work) ≡ eventsBetween table from to
+  -- the events at hand are those of the state that fit
+  pub at-hand-between : atHand table (atState table i work) ≡ eventsBetween table (firstOf work i) (stateEnd table i work)
   unfolding atHand eventsBetween
   at-hand-between =
       ap₂ (λ (x y : ℕ). map (λ k. errorEvent (getD table k noEvent)) (upFrom x (y - x))) start-atState end-atState
@@ -204,8 +232,9 @@ module _ {table : List Event} {work : List ℕ} (ix : Indexed table work) (i : �
       let enough = ix .enough in
       elim (ℕ-discrete j i) [
         | yes same ↦
-            let at-hand : Within c (atHand table us) = λ e n. subst (List·Memᴰ e)
-            (ap (λ (x : ℕ). eventsBetween table (firstOf work x) (firstOf work (x + 1))) same ∙ sym at-hand-between) (m e n) in
+            let of-state : Within c (eventsBetween table from next) = λ e n. subst (List·Memᴰ e)
+            (ap (λ (x : ℕ). eventsBetween table (firstOf work x) (firstOf work (x + 1))) same) (m e n) in
+            let at-hand : Within c (atHand table us) = λ e n. subst (List·Memᴰ e) (sym at-hand-between) (chain-fit c of-state s e n) in
             let all : steps c ≡ bitsAt us = s ∙ sym bits-atState in
             let least = least-whole joins-at-state c at-hand (omega arith) in
             subst (λ (x : ℕ). x ≤ cost c) (sym (ap (wholeAt (wholeKept i us)) same ∙ whole-same us i inside (omega arith) ∙ ap (fillAt us) (sym all))) least
@@ -249,5 +278,5 @@ module _ {table : List Event} {work : List ℕ} (ix : Indexed table work) (i : �
         let same = bits-atState in
         joined-none (bitsAt us) (atHand table us) (some-step joins-at-state) (bitsAt work) (bitsAt work) 0 first w (omega arith) (λ c f.
         let costs = f .cost-is in
-        let least = ix .wholes i inside c (λ e n. subst (List·Memᴰ e) at-hand-between (f .from e n)) (f .steps-are) in
+        let least = ix .wholes i inside c (λ e n. fit-are e (subst (List·Memᴰ e) at-hand-between (f .from e n))) (f .steps-are) in
         omega arith)

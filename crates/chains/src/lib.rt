@@ -3,12 +3,14 @@
 // worth joining.
 ghost use mathlib.Core.Path.{_≡_};
 ghost use Prim.Native.Nat.{_-_, _≤_, _<_};
+ghost use mathlib.Core.Bool.{cond};
+ghost use lib.Dec.{ltb};
 ghost use lib.ListN.{length};
 ghost use Rattle.paths.specs.Model.Joining.{turns, firstOr};
 ghost use Rattle.bounds.specs.Model.Places.{areaSize};
 ghost use Rattle.bounds.specs.Model.Tables.{bitsAt, endAt, surveyed, Small};
 ghost use Rattle.rotations.specs.Model.Put.{puts};
-ghost use Rattle.chains.specs.Model.Chaining.{inputsOf, extended, found, foundBy, unbegun, weighed, stateListed, lighterListed, weightListed, Noted, ToExtend, ToEmit, ToJoin, ToChain, ToListState, ToListWeight};
+ghost use Rattle.chains.specs.Model.Chaining.{inputsOf, extended, found, foundBy, unbegun, fittingEnd, weighed, stateListed, lighterListed, weightListed, Noted, ToExtend, ToEmit, ToJoin, ToChain, ToListState, ToListWeight};
 use bounds::BITS_AT;
 use bounds::COMPLETE;
 use bounds::Chain;
@@ -135,6 +137,39 @@ fn chain(events: &[Event], work: &[u64], paths: &mut [u64], at: usize, begun: Ch
 
 // ---- state by state
 
+// The steps of a word.
+fn bits_of(work: &[u64]) -> u64
+    requires { ⌜ areaSize ≤ length (now work) ⌝ }
+    ensures { λ r. ⌜ r ≡ bitsAt (now (work .entry)) ⌝ }
+{
+    work[BITS_AT]
+}
+
+// Place k where event e, which stands there, is longer than `bits` steps; else `end`.
+fn end_by(e: Event, bits: u64, k: usize, end: usize) -> usize
+    ensures { λ r. ⌜ r ≡ cond (ltb bits (e .length)) k end ⌝ }
+{
+    if bits < e.length {
+        return k;
+    }
+    end
+}
+
+// The place of the first event from `from` on that is longer than `bits` steps; `to` where there is none.
+fn fitting_end(events: &[Event], from: usize, to: usize, bits: u64) -> usize
+    requires { ⌜ to ≤ length (now events) ⌝ }
+    ensures { λ r. ⌜ r ≡ fittingEnd (now (events .entry)) bits to (to - from) from ⌝ }
+{
+    let mut end = to;
+    let mut k = from;
+    while k < end {
+        let e = event_at(events, k);
+        end = end_by(e, bits, k, end);
+        k += 1;
+    }
+    end
+}
+
 // The events from place `from` to before place `to` are noted in the tables.
 pub fn survey(events: &[Event], work: &mut [u64], from: usize, to: usize)
     requires { ⌜ (areaSize ≤ length (now work)) × Noted (now events) from to ⌝ }
@@ -175,7 +210,10 @@ fn list_state(
     ensures { λ r. ⌜ (now (work .exit), (now (paths .exit), r)) ≡ stateListed (now (events .entry)) first w i (now (work .entry)) (now (paths .entry), at) ⌝ }
 {
     let from = first_of(work, i);
-    let to = first_of(work, i + 1);
+    let last = first_of(work, i + 1);
+    let bits = bits_of(work);
+    // a table made for longer words has events that no chain can use: they stand last
+    let to = fitting_end(events, from, last, bits);
     open_state(work, to);
     survey(events, work, from, to);
     close_state(work, from);

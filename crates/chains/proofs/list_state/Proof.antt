@@ -11,7 +11,9 @@ use Rattle.bounds.proofs.open_state.Met as open-state
 use Rattle.bounds.proofs.close_state.Met as close-state
 use Rattle.bounds.proofs.Plains.{Chain}
 use Rattle.chains.specs.Model.Chaining.{atState}
-use Rattle.chains.proofs.list_state.Proof.Steps.{Bounds, asks-survey, asks-close, asks-weigh, weighed-is-state, asks-unbegun, asks-chain, listed-state}
+use Rattle.chains.proofs.list_state.Proof.Steps.{Bounds, ends-at, asks-fitting, asks-survey, asks-close, asks-weigh, weighed-is-state, asks-unbegun, asks-chain, listed-state}
+use Rattle.chains.proofs.bits_of.Met as bits-of
+use Rattle.chains.proofs.fitting_end.Met as fitting-end
 use Rattle.chains.proofs.survey.Met as survey
 use Rattle.chains.proofs.weigh_state.Met as weigh-state
 use Rattle.chains.proofs.unbegun.Met as unbegun
@@ -52,9 +54,19 @@ module _ {M : Type 1} (𝓤 : URA M) (H : Heap 𝓤) (𝓜 : Model 𝓤 H) (𝓖
       shares-at ! tt 1 work (work .was) refl refl (λ y.
       let last : List Par = shr (at-loan work y) (work .was) refl ∷ num (i .it + 1) next ∷ [] in
       calls-into 𝓣 ! 4 (2 ∷ []) last number none (λ xs. first-of.met 𝓤 H 𝓜 𝓖 𝓡 (bound last xs, tt))
-      (asks (givenOf 𝓤 H 𝓜 𝓖) (enough, omega (arith, few))) tt refl refl (λ t t-ok _ is-t _.
+      (asks (givenOf 𝓤 H 𝓜 𝓖) (enough, omega (arith, few))) tt refl refl (λ l l-ok _ is-l _.
       unshares-at ! tt 1 work (work .was) refl y refl $
-      let b : Bounds (work .was) (i .it) = record { from = f; to = t; is-from = is-f; is-to = is-t } in
+      -- where those end that a word has the steps for
+      relend ! 3 work refl refl $
+      shares-at ! tt 1 work (work .was) refl refl (λ v.
+      let sizing : List Par = shr (at-loan work v) (work .was) refl ∷ [] in
+      calls-into 𝓣 ! 4 (2 ∷ []) sizing number none (λ xs. bits-of.met 𝓤 H 𝓜 𝓖 𝓡 (bound sizing xs, tt))
+      (asks (givenOf 𝓤 H 𝓜 𝓖) enough) tt refl refl (λ bits bits-ok _ is-bits _.
+      unshares-at ! tt 1 work (work .was) refl v refl $
+      let fitting : List Par = the events ∷ res number f f-ok ∷ res number l l-ok ∷ res number bits bits-ok ∷ [] in
+      calls-into 𝓣 ! 3 (0 ∷ []) fitting number none (λ xs. fitting-end.met 𝓤 H 𝓜 𝓖 𝓡 (bound fitting xs, tt))
+      (asks (givenOf 𝓤 H 𝓜 𝓖) (asks-fitting ask is-l)) tt refl refl (λ t t-ok _ is-t _.
+      let b : Bounds (events .was) (work .was) (i .it) = record { from = f; to = t; is-from = is-f; is-to = ends-at _ _ _ is-f is-l is-bits is-t } in
       -- the tables opened, the events noted, and closed
       relend ! 3 work refl refl $
       let opening : List Par = all-of work ∷ res number t t-ok ∷ [] in
@@ -86,7 +98,7 @@ module _ {M : Type 1} (𝓤 : URA M) (H : Heap 𝓤) (𝓜 : Model 𝓤 H) (𝓖
       (asks (givenOf 𝓤 H 𝓜 𝓖) (asks-chain ask is-state is-begun)) tt refl refl (λ r r-ok (ls, _) is-r (kl, _).
       unshares-at ! tt 1 work ws kw z refl $
       finish 𝓣 ! 3 (ends r r-ok (ws, (ls, tt)) (kw, (kl, tt))
-      (listed-state ask is-state is-begun is-r)) refl refl))))))))))))
+      (listed-state ask is-state is-begun is-r)) refl refl)))))))))))))))
 
 pub list-state-spec : {M : Type 1} → stated.statement M
 unfolding code.routine

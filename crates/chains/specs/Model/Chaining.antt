@@ -71,11 +71,22 @@ unbegun N first w = record { first = first; steps = N; budget = w; low = 0; high
 
 -- ---- state by state
 
+-- the place of the first of n events from place k on that is longer than `bits` steps; `to` where there is none
+unfoldable pub fittingEnd : List Event → ℕ → ℕ → ℕ → ℕ → ℕ
+fittingEnd table bits to zero k = to
+fittingEnd table bits to (suc n) k = cond (ltb bits (getD table k noEvent .length)) k (fittingEnd table bits to n (k + 1))
+
+-- the place after the last event of state i that a word has the steps for: the events stand by length
+unfoldable pub stateEnd : List Event → ℕ → List ℕ → ℕ
+stateEnd table i work =
+    let last : ℕ = firstOf work (i + 1) in
+    fittingEnd table (bitsAt work) last (last - firstOf work i) (firstOf work i)
+
 -- the tables of state i, closed
 unfoldable pub tabled : List Event → ℕ → List ℕ → List ℕ
 tabled table i work =
     let from : ℕ = firstOf work i in
-    let to : ℕ = firstOf work (i + 1) in
+    let to : ℕ = stateEnd table i work in
     closed from (surveyed table (to - from) from (opened to work))
 
 -- what the events of a state weigh at least beside the zero loop, where that is their first; 0 where it is not
@@ -87,7 +98,7 @@ weighed table from to work = set work lightPlace (lightFrom table from to work)
 
 -- the tables of state i
 unfoldable pub atState : List Event → ℕ → List ℕ → List ℕ
-atState table i work = weighed table (firstOf work i) (firstOf work (i + 1)) (tabled table i work)
+atState table i work = weighed table (firstOf work i) (stateEnd table i work) (tabled table i work)
 
 -- the work area after state i: as it was where no word of the state is so light; else its tables, and what a word weighs at least is kept
 unfoldable pub afterState : List Event → ℕ → ℕ → List ℕ → List ℕ

@@ -1,32 +1,48 @@
 -- What each call of `list_state` asks, and what they leave in the end.
 -- Assumes nothing.
-use Prim.Native.Nat.{ℕ, _+_, _-_}
+use Prim.Native.Nat.{ℕ, _+_, _-_, _≤_}
 use native.Mathlib.Omega.{arith}
 use mathlib.Core.Path.{_≡_, sym, ap, ap₂, _∙_, subst}
 use mathlib.Core.List.{List}
+use lib.ListN.{length}
 use Rattle.events.specs.declared.Event.{Event}
 use Rattle.rotations.specs.Model.Put.{puts}
 use Rattle.bounds.specs.declared.Chain.{Chain}
+use Rattle.bounds.specs.Model.Places.{stateCount}
 use Rattle.bounds.specs.Model.Tables.{firstOf, bitsAt, surveyed, opened, closed, Small}
-use Rattle.chains.specs.Model.Chaining.{tabled, weighed, atState, found, unbegun, stateListed, Noted, ToChain, ToListState}
+use Rattle.chains.specs.Model.Chaining.{fittingEnd, stateEnd, tabled, weighed, atState, found, unbegun, stateListed, Noted, ToChain, ToListState}
 use Rattle.chains.proofs.Unfinished.{unbegun-unfinished}
 use Rattle.chains.proofs.States.{state-noted, state-small, tabled-small, state-ready, bits-atState, joins-at-state}
 
--- where the state's events begin, and where they end
-pub record Bounds (work : List ℕ) (i : ℕ) : Type 0 where
+-- where the state's events begin, and where those end that fit
+pub record Bounds (table : List Event) (work : List ℕ) (i : ℕ) : Type 0 where
   pub from : ℕ
   pub to : ℕ
   pub is-from : from ≡ firstOf work i
-  pub is-to : to ≡ firstOf work (i + 1)
+  pub is-to : to ≡ stateEnd table i work
+
+pub ends-at : (table : List Event) (work : List ℕ) (i : ℕ) {f l bits t : ℕ} → f ≡ firstOf work i → l ≡ firstOf work (i + 1) → bits ≡ bitsAt work
+    → t ≡ fittingEnd table bits l (l - f) f → t ≡ stateEnd table i work
+unfolding stateEnd
+ends-at table work i {f} is-f is-l is-bits is =
+    is ∙ ap₂ (λ (x y : ℕ). fittingEnd table x y (y - f) f) is-bits is-l
+    ∙ ap (λ (x : ℕ). fittingEnd table (bitsAt work) (firstOf work (i + 1)) (firstOf work (i + 1) - x) x) is-f
 
 module _ {table : List Event} {work paths : List ℕ} {at i first w : ℕ} (ask : ToListState table work paths at i first w) where
-  module _ (b : Bounds work i) where
+  pub asks-fitting : {l : ℕ} → l ≡ firstOf work (i + 1) → l ≤ length table
+  asks-fitting is =
+      let few = ask .state-small in
+      let rises = ask .indexed .rises (i + 1) stateCount (omega arith) (omega arith) in
+      let inside = ask .indexed .inside in
+      omega arith
+
+  module _ (b : Bounds table work i) where
     pub asks-survey : Noted table (b .from) (b .to)
     asks-survey = rw (b .is-from, b .is-to) (state-noted (ask .indexed) i (ask .state-small))
 
     module _ {us vs : List ℕ} (is-us : us ≡ opened (b .to) work)
         (is-vs : vs ≡ surveyed table (b .to - b .from) (b .from) us) where
-      noted-is : vs ≡ surveyed table (firstOf work (i + 1) - firstOf work i) (firstOf work i) (opened (firstOf work (i + 1)) work)
+      noted-is : vs ≡ surveyed table (stateEnd table i work - firstOf work i) (firstOf work i) (opened (stateEnd table i work) work)
       noted-is =
           is-vs ∙ ap₂ (λ (x : ℕ) (zs : List ℕ). surveyed table (b .to - x) x zs) (b .is-from) is-us
           ∙ ap (λ (x : ℕ). surveyed table (x - firstOf work i) (firstOf work i) (opened x work)) (b .is-to)
@@ -46,7 +62,7 @@ module _ {table : List Event} {work paths : List ℕ} {at i first w : ℕ} (ask 
         unfolding atState
         weighed-is-state is =
             is ∙ ap₂ (λ (x y : ℕ). weighed table x y cs) (b .is-from) (b .is-to)
-            ∙ ap (weighed table (firstOf work i) (firstOf work (i + 1))) closed-is
+            ∙ ap (weighed table (firstOf work i) (stateEnd table i work)) closed-is
 
   module _ {ws : List ℕ} (is-ws : ws ≡ atState table i work) where
     pub asks-unbegun : Small ws
