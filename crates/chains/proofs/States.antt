@@ -142,7 +142,7 @@ module _ {table : List Event} {work : List ℕ} (ix : Indexed table work) (i : �
 
   some-events : 1 ≤ light → from < to
   unfolding lightFrom
-  some-events h = some-of (ltb from to) (lightOf (tabled table i work) (getD table from noEvent) from) refl h
+  some-events h = some-of (ltb from to) _ refl h
 
   light-is : from < to → light ≡ lightOf (tabled table i work) (getD table from noEvent) from
   unfolding lightFrom

@@ -2,7 +2,9 @@
 -- Assumes nothing.
 use borrow.Author.Needs.{needs}
 use native.Mathlib.Omega.{arith}
-use mathlib.Core.Path.{sym, _∙_}
+use Prim.Native.Nat.{_+_}
+use mathlib.Core.Path.{_≡_, _∙_}
+use Rattle.bounds.specs.Model.Tables.{startAt}
 use Rattle.bounds.proofs.ZeroLoops.{light-told, light-two, light-other}
 use Rattle.bounds.proofs.light_of.Statement.{statement}
 use Rattle.bounds.proofs.light_of.Tie as tie
@@ -26,7 +28,11 @@ lightest-requires : tie.Need-lightest-requires
 lightest-requires c κs = search needs
 
 returns : tie.Need-returns
-returns c = (c .lightest .ensures) ∙ light-told _ _ _ (c .before .before .before .before .is-zero-loop .ensures) (c .before .before .before .if1 .taken) (c .before .if2 .taken)
+returns c =
+    let a = c .before .before .before .before .before .before .args in
+    let one : startAt (a .work .now) 2 ≡ a .from + 1 = omega arith in
+    c .lightest .ensures
+    ∙ light-told (a .work .now) (a .e) (a .from) (c .before .before .before .before .is-zero-loop .ensures) (c .before .before .before .if1 .taken) one
 
 returns-2 : tie.Need-returns-2
 returns-2 c = light-two _ _ _ (c .if2 .left)
