@@ -22,7 +22,7 @@ use Rattle.lists.proofs.Choices.{cond-true, cond-false, eqb-differs}
 use Rattle.events.specs.declared.Event.{Event}
 use Rattle.events.specs.Events.{ErrorEvent, noEvent}
 use Rattle.paths.specs.Model.Joining.{turns, firstOr, fitsIn, joining, joined}
-use Rattle.paths.proofs.Passed.{joining-more}
+use Rattle.paths.proofs.Joined.{firstOr-again, joining-more}
 use Rattle.paths.proofs.Pruned.{joined-drops, fill-le-cost}
 use Rattle.paths.proofs.UsedUp.{Calm, used-up, too-light}
 use Rattle.bounds.specs.declared.Chain.{Chain}
@@ -36,13 +36,6 @@ pub word-extended : (N : ℕ) (begun : Chain) (e : Event)
     → inputsOf (extended N begun e) ≡ inputsOf begun + wordOf e * 2 ^ (N - begun .steps)
 unfolding extended
 word-extended N begun e = split (inputsOf begun + wordOf e * 2 ^ (N - begun .steps)) 64
-
--- the first event's length stays
-firstOr-again : (first l : ℕ) → 1 ≤ l → firstOr (firstOr first l) 1 ≡ firstOr first l
-unfolding firstOr
-firstOr-again zero zero h = absurd (omega arith)
-firstOr-again zero (suc l) h = refl
-firstOr-again (suc first) l h = refl
 
 module _ {table : List Event} {work : List ℕ} (joins : Joins table work) where
   abbrev N : ℕ
@@ -273,7 +266,7 @@ module _ {table : List Event} {work : List ℕ} (joins : Joins table work) where
         by-part f n
         ∙ ap (λ (x : ℕ). joined fuel es N (begun .steps - e .length) longer first″ x) none
         ∙ used-up N es (lightAt work) (omega arith) (calm (omega arith)) fuel (begun .steps - e .length) longer first″ (omega arith) (omega arith)
-        ∙ ap (λ (x : ℕ). turns N x longer) (firstOr-again (begun .first) (e .length) some)
+        ∙ ap (λ (x : ℕ). turns N x longer) (firstOr-again (begun .first) (e .length) 1 some)
 
     pub found-none : decided work begun e ≡ skipped → foundBy table work begun e ≡ []
     found-none d =

@@ -1,9 +1,9 @@
 -- What the chaining finds is what the model of the recursion joins (`paths`' specs/Model/Joining.antt), where the table holds the events of an order c, the
 -- order itself or the same for longer words, and the work area tells where each state's begin: state by state (`found-is-stateWords`), and over all
--- states that begin events (`foundFrom-is-chainWords`). Of a longer order's events those are at hand that a word has the steps for (`at-hand-is`).
+-- states that begin events (`foundFrom-is-chainWords`). Of a longer order's events those are at hand that are the order's own (`at-hand-is`).
 -- Assumes nothing.
 use Prim.Native.Nat.{ℕ, zero, suc, _+_, _-_, _≤_, _<_}
-use native.Mathlib.Nat.{le-refl, lt-of-lt-of-le}
+use native.Mathlib.Nat.{lt-of-lt-of-le}
 use native.Mathlib.Numerals.{add-one}
 use native.Mathlib.Omega.{arith}
 use mathlib.Core.Path.{_≡_, refl, sym, ap, ap₂, _∙_, subst}
@@ -22,9 +22,8 @@ use Rattle.events.specs.declared.Event.{Event}
 use Rattle.events.specs.Events.{ErrorEvent, eventsOfState, events, entry, noEvent}
 use Rattle.events.proofs.Listed.{Within, Before, within-asymmetric, of-events, in-events, eventsOfState-sorted, events-sorted}
 use Rattle.events.proofs.OfState.{EventOf, mem-eventsOfState}
-use Rattle.events.proofs.Shorter.{atMost}
+use Rattle.events.proofs.Shorter.{atMost, eventsOfState-no-longer}
 use Rattle.paths.specs.Model.Joining.{joined, unbegunFirst, stateWords, chainWords}
-use Rattle.paths.proofs.Passed.{joined-passes, stateWords-among}
 use Rattle.bounds.specs.Model.Places.{stateCount}
 use Rattle.bounds.specs.Model.Tables.{firstOf, bitsAt}
 use Rattle.chains.specs.Model.Chaining.{errorEvent, eventsBetween, atHand, atState, afterState, afterStates, found, foundFrom, unbegun, Indexed}
@@ -148,19 +147,19 @@ module _ (o c : Order) (table : List Event) (work : List ℕ) (d : Delimits o c 
     unfolding eventsBetween slice read
     between-is = slice-is
 
-    -- those at hand are those that a word has the steps for
-    pub at-hand-is : atHand table (atState table i work) ≡ filter (atMost (bitsAt work)) (eventsOfState c i)
+    -- those at hand have no more steps than a word: they are the order's own
+    pub at-hand-is : atHand table (atState table i work) ≡ eventsOfState o i
     at-hand-is =
-        at-hand-between (d .indexed) i inside ∙ fit-filters (d .indexed) i inside ∙ ap (filter (atMost (bitsAt work))) between-is
+        at-hand-between (d .indexed) i inside ∙ fit-filters (d .indexed) i inside
+        ∙ ap₂ (λ (N : ℕ) (es : List ErrorEvent). filter (atMost N) es) (d .bits) between-is
+        ∙ sym (eventsOfState-no-longer (d .no-longer) i low)
 
     pub found-is-stateWords : (w : ℕ) → found table (atState table i work) (unbegun (bitsAt work) (unbegunFirst o) w) ≡ stateWords o i w
     unfolding found unbegun stateWords
     found-is-stateWords w =
         ap₂ (λ (es : List ErrorEvent) (N : ℕ). joined (bitsAt work) es N (bitsAt work) 0 (unbegunFirst o) w) at-hand-is
         (bits-atState (d .indexed) i inside)
-        ∙ sym (joined-passes (bitsAt work) (eventsOfState c i) (bitsAt work) (bitsAt work) 0 (unbegunFirst o) w (le-refl (bitsAt work)))
-        ∙ ap (λ (N : ℕ). joined N (eventsOfState c i) N N 0 (unbegunFirst o) w) (d .bits)
-        ∙ stateWords-among (d .no-longer) i w low
+        ∙ ap (λ (N : ℕ). joined N (eventsOfState o i) N N 0 (unbegunFirst o) w) (d .bits)
 
     -- the next state finds the same index
     pub delimits-next : (w : ℕ) → Delimits o c table (afterState table w i work)

@@ -83,6 +83,12 @@ module _ (o : Order) (N : ℕ) (shorter : N ≤ o .N) where
             in-filter fits (eventsOfState o i) (in-eventsOfState o i record { state-is = l .state-is; event = h .0 }) (h .1),
       ))
 
+-- the same of an order that is no longer
+pub eventsOfState-no-longer : {o c : Order} → NoLonger o c → (i : ℕ) → i < eventStates c
+    → eventsOfState o i ≡ filter (atMost (stepsOf o)) (eventsOfState c i)
+eventsOfState-no-longer {o} {c} h i low =
+    subst (λ (x : Order). eventsOfState x i ≡ filter (atMost (stepsOf x)) (eventsOfState c i)) (sym (h .same)) (eventsOfState-shorter c (o .N) (h .at-most) i low)
+
 -- the entries of a table that have so few steps are as many as the events
 counted-listed : (o : Order) (size steps : ℕ) → countWithin (eventTable size o) (length (events o)) steps ≡ count (atMost steps) (events o)
 unfolding countWithin eventTable padded entry

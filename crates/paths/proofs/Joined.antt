@@ -20,7 +20,7 @@ unfoldable pub emit : ℕ → ℕ → ℕ → ℕ → List ErrorEvent → List �
 emit N left acc first c = turns N (firstOr first (firstLength c)) (acc + inputNumber c * 2 ^ (N - left))
 
 -- the first event's length stays
-firstOr-again : (first l x : ℕ) → 1 ≤ l → firstOr (firstOr first l) x ≡ firstOr first l
+pub firstOr-again : (first l x : ℕ) → 1 ≤ l → firstOr (firstOr first l) x ≡ firstOr first l
 unfolding firstOr
 firstOr-again zero zero x h = absurd (omega arith)
 firstOr-again zero (suc l) x h = refl
@@ -36,6 +36,18 @@ joint-number N left l acc a n h g =
     omega arith
 
 module _ (N : ℕ) where
+  -- what is found with one event more hangs on what is found after it
+  pub joining-more : (more more′ : ℕ → ℕ → ℕ → ℕ → List ℕ) (left acc first budget : ℕ) (e : ErrorEvent)
+      → more (left - e .length) (acc + e .input * 2 ^ (N - left)) (firstOr first (e .length)) (budget - e .weight)
+      ≡ more′ (left - e .length) (acc + e .input * 2 ^ (N - left)) (firstOr first (e .length)) (budget - e .weight)
+      → joining N more left acc first budget e ≡ joining N more′ left acc first budget e
+  unfolding joining
+  joining-more more more′ left acc first budget e same =
+      let c : ℕ = acc + e .input * 2 ^ (N - left) in
+      let f : ℕ = firstOr first (e .length) in
+      ap (λ (rest : List ℕ). cond (fitsIn left budget e)
+      (cond (eqb (e .length) left) (cond (eqb (e .weight) budget) (turns N f c) []) rest) []) same
+
   emit-one : (left acc first : ℕ) (e : ErrorEvent) → turns N (firstOr first (e .length)) (acc + e .input * 2 ^ (N - left)) ≡ emit N left acc first (e ∷ [])
   unfolding emit inputNumber firstLength
   emit-one left acc first e =

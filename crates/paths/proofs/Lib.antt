@@ -9,4 +9,3 @@ pub mod Words
 pub mod Pruned
 pub mod UsedUp
 pub mod Theorem
-pub mod Passed

@@ -17,6 +17,7 @@ use Rattle.events.specs.Events.{ErrorEvent}
 use Rattle.paths.specs.Chains.{steps, cost}
 use Rattle.paths.specs.Model.Joining.{turns, firstOr, fitsIn, joining, joined}
 use Rattle.paths.proofs.Chains.{Fills}
+use Rattle.paths.proofs.Joined.{firstOr-again}
 use Rattle.paths.proofs.Pruned.{joined-none}
 
 -- the zero loop, and others that weigh at least `light`
@@ -41,11 +42,6 @@ first-only f x xs h = ap (λ l. f x ++ l) (flatMap-cong-on f (λ _. []) xs h ∙
 
 one-less : (x : ℕ) → suc (suc x) - 1 ≡ suc x
 one-less x = omega arith
-
-firstOr-one : (first : ℕ) → firstOr (firstOr first 1) 1 ≡ firstOr first 1
-unfolding firstOr
-firstOr-one zero = refl
-firstOr-one (suc first) = refl
 
 module _ (N : ℕ) (es : List ErrorEvent) (light : ℕ) (some-light : 1 ≤ light) (calm : Calm light es) where
   -- nothing that weighs is joined where no weight is left
@@ -109,7 +105,7 @@ module _ (N : ℕ) (es : List ErrorEvent) (light : ℕ) (some-light : 1 ≤ ligh
       only-loop fuel (suc (suc left)) acc first ∙ loop-more (joined fuel es N) (suc (suc left)) acc first some (omega arith)
       ∙ ap (λ (x : ℕ). joined fuel es N x acc (firstOr first 1) 0) (one-less left)
       ∙ used-up fuel (suc left) acc (firstOr first 1) (omega arith) (omega arith)
-      ∙ ap (λ (x : ℕ). turns N x acc) (firstOr-one first)
+      ∙ ap (λ (x : ℕ). turns N x acc) (firstOr-again first 1 1 (omega arith))
 
   -- ---- weights that no chain has
 
