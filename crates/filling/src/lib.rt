@@ -18,7 +18,7 @@ use code::link::steps_of;
 use events::Event;
 use lists::clear_words;
 use order::record::OrderRecord;
-use sort::sort;
+use radix::sort;
 
 // ---- what an order tells
 

@@ -12,3 +12,4 @@ pub mod Distinct
 pub mod Hits
 pub mod Choices
 pub mod Filters
+pub mod Counts

@@ -1,8 +1,8 @@
 -- Laws of a sum f 0 + .. + f (k - 1).
 -- Assumes nothing.
 use mathlib.Core.Path.{_≡_, refl, sym, ap, ap₂, _∙_}
-use Prim.Native.Nat.{ℕ, zero, suc, _+_, _<_, suc-le-suc}
-use native.Mathlib.Nat.{add-assoc, add-comm, add-zero, zero-add, suc-add, add-suc, zero-lt-suc}
+use Prim.Native.Nat.{ℕ, zero, suc, _+_, _*_, _≤_, _<_, suc-le-suc}
+use native.Mathlib.Nat.{add-assoc, add-comm, add-zero, zero-add, suc-add, add-suc, suc-mul, zero-lt-suc}
 use native.Mathlib.Omega.{arith}
 use Rattle.lists.specs.Lists.{sum}
 
@@ -43,3 +43,19 @@ sum-period k (suc r) f h =
     sum-cong k (λ j. f (j + suc r)) (λ j. f (suc j + r)) (λ j _. ap f (add-suc j r ∙ sym (suc-add j r)))
     ∙ sum-later k (λ j. f (j + r)) (ap f (add-comm k r) ∙ h r ∙ ap f (sym (zero-add r)))
     ∙ sum-period k r f h
+
+-- one of the numbers grows by one
+pub sum-one : (k i : ℕ) (f g : ℕ → ℕ) → i < k → ((j : ℕ) → (j ≡ i → ⊥) → g j ≡ f j) → g i ≡ suc (f i) → sum k g ≡ suc (sum k f)
+unfolding sum
+sum-one zero i f g h same more = absurd (omega arith)
+sum-one (suc k) zero f g h same more =
+    let rest = sum-cong k (λ j. g (suc j)) (λ j. f (suc j)) (λ j l. same (suc j) (λ e. omega arith)) in omega arith
+sum-one (suc k) (suc i) f g h same more =
+    let rest = sum-one k i (λ j. f (suc j)) (λ j. g (suc j)) (omega arith) (λ j n. same (suc j) (λ e. n (omega arith))) more in
+    let first = same 0 (λ e. omega arith) in
+    omega arith
+
+pub sum-most : (k most : ℕ) (f : ℕ → ℕ) → ((j : ℕ) → f j ≤ most) → sum k f ≤ k * most
+unfolding sum
+sum-most zero most f h = omega arith
+sum-most (suc k) most f h = let r = sum-most k most (λ j. f (suc j)) (λ j. h (suc j)) in let a = h 0 in let e = suc-mul k most in omega arith
