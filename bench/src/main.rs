@@ -19,10 +19,10 @@ mod words;
 
 use dohvrin::Link;
 use lent::Lent;
-use orders::{Order, BY_D, BY_N, MIDDLE, QUOTES, TABLE_1, TABLE_2, TERMINATED};
+use orders::{Order, BY_D, BY_N, LONG, MIDDLE, QUOTES, TABLE_1, TABLE_2, TERMINATED};
 use std::fmt::Debug;
 use std::process::ExitCode;
-use turns::{time, Turns};
+use turns::{shown, time, Turns};
 
 /// The two sides of most tables.
 const RACE: [&str; 2] = ["library", "plain Rust"];
@@ -64,8 +64,8 @@ fn main() -> ExitCode {
 
 fn searches(turns: usize) {
     head("The whole search", "paths", RACE);
-    search(turns, name_of, &[TABLE_1, TABLE_2]);
-    search(turns, name_of, &TERMINATED);
+    search(turns, &[TABLE_1, LONG, TABLE_2]);
+    search(turns, &TERMINATED);
 }
 
 /// Shorter lengths from the events of an order.
@@ -133,16 +133,35 @@ fn calls(turns: usize) {
 }
 
 fn growth(turns: usize, by_n: &[Order], by_d: &[Order]) {
-    head("The whole search by N, 13, 17 · m=6 · d=14", "paths", RACE);
-    search(turns, |order| format!("N={}", order.bits), by_n);
-    head("The whole search by d, 13, 17 · N=70 · m=6", "paths", RACE);
-    search(turns, |order| format!("d={}", order.d), by_d);
+    grown("The whole search by N, 13, 17 · m=6 · d=14");
+    for &order in by_n {
+        grown_row(&format!("N={}", order.bits), order, turns);
+    }
+    grown("The whole search by d, 13, 17 · N=70 · m=6");
+    for &order in by_d {
+        grown_row(&format!("d={}", order.d), order, turns);
+    }
 }
 
-fn search(turns: usize, name: fn(&Order) -> String, orders: &[Order]) {
+/// The head of a table with a column more: the library's nanoseconds a path.
+fn grown(title: &str) {
+    let [one, other] = RACE;
+    println!("\n{title}:\n");
+    println!("| | paths | {one} | {other} | ratio | {one}, a path |");
+    println!("|---|---|---|---|---|---|");
+}
+
+fn grown_row(name: &str, order: Order, turns: usize) {
+    let times = race(turns, order, lent::library_search, lent::plain_search);
+    let each = shown(times.first() / order.paths as f64);
+    let paths = grouped(order.paths);
+    println!("| {name} | {paths} | {} | {each} |", times.cells());
+}
+
+fn search(turns: usize, orders: &[Order]) {
     for &order in orders {
         let times = race(turns, order, lent::library_search, lent::plain_search);
-        row(&name(&order), order.paths, &times);
+        row(&name_of(&order), order.paths, &times);
     }
 }
 

@@ -45,6 +45,9 @@ impl Order {
 /// Document 000, Table I.
 pub const TABLE_1: Order = order_13_17(70, 18, 15_852, 1_940_785);
 
+/// Long words, of which nearly all bits are 0.
+pub const LONG: Order = order_13_17(128, 15, 2_111, 333_056);
+
 /// Document 004, Table II, m = 12.
 pub const TABLE_2: Order = Order {
     link: Link::TailBiting,
@@ -97,8 +100,8 @@ pub struct Quote {
 }
 
 /// All events of the first are short enough for its row; of the second 8,807 of
-/// 15,852 are.
-pub const QUOTES: [Quote; 2] = [
+/// 15,852 are, of the third 78,169 of 5,079,947.
+pub const QUOTES: [Quote; 3] = [
     Quote {
         long: BY_N[3],
         short: BY_N[1],
@@ -106,6 +109,15 @@ pub const QUOTES: [Quote; 2] = [
     Quote {
         long: TABLE_1,
         short: order_13_17(20, 18, 8_807, 225_866),
+    },
+    Quote {
+        long: TABLE_2,
+        short: Order {
+            bits: 20,
+            events: 78_169,
+            paths: 655_649,
+            ..TABLE_2
+        },
     },
 ];
 

@@ -22,7 +22,7 @@ impl Turns {
     /// The last cells of a row: the median of either side, and of the ratio of
     /// neighbouring turns with the middle half of them.
     pub fn cells(&self) -> String {
-        let one = self.quarters(|turn| turn.0)[1];
+        let one = self.first();
         let other = self.quarters(|turn| turn.1)[1];
         let [low, median, high] = self.quarters(|turn| turn.0 / turn.1);
         format!(
@@ -30,6 +30,11 @@ impl Turns {
             shown(one),
             shown(other)
         )
+    }
+
+    /// The median of the first side, in nanoseconds.
+    pub fn first(&self) -> f64 {
+        self.quarters(|turn| turn.0)[1]
     }
 
     fn quarters(&self, of: fn(&(f64, f64)) -> f64) -> [f64; 3] {

@@ -3,6 +3,7 @@
 //! the tables.
 
 use super::events::collect;
+use super::sort::sort;
 use dohvrin::Event;
 use dso_ref::link::{Code, Kind};
 
@@ -34,7 +35,7 @@ pub fn list(
         for state in &states {
             state.chain(state.steps, w as u8, 0, 1, &mut found);
         }
-        found.paths.get_mut(before..found.at)?.sort_unstable();
+        sort(found.paths.get_mut(before..found.at)?, code.length);
         *count = (found.at - before) as u64;
     }
     let Found { paths, at } = found;
