@@ -1,5 +1,5 @@
--- The events of a state that a word has the steps for: they stand first, since events stand by length (`fitting-filters`), and a chain that fills
--- a word has no others (`chain-fits`).
+-- The events of a state that a word has the steps for: they stand first, since events stand by length (`fitting-filters`), they end at the place
+-- before which all fit and at which none does (`fitting-is`), and a chain that fills a word has no others (`chain-fits`).
 -- Assumes nothing.
 use Prim.Native.Nat.{ℕ, zero, suc, _+_, _-_, _≤_, _<_}
 use native.Mathlib.Decide.{ℕ-discrete}
@@ -57,6 +57,27 @@ module _ (table : List Event) (bits last : ℕ) where
   end-inside zero k all = omega arith
   end-inside (suc n) k all = either (λ x. x ≤ last) (ltb bits (len k)) (omega arith) (end-inside n (k + 1) (omega arith))
 
+  -- the place before which all fit, and at which an event is too long unless none stands there
+  end-is : (n k m : ℕ) → k + n ≡ last → k ≤ m → m ≤ last → ((j : ℕ) → k ≤ j → j < m → len j ≤ bits) → (m < last → bits < len m) → m ≡ end n k
+  unfolding fittingEnd
+  end-is zero k m all after inside fit past = omega arith
+  end-is (suc n) k m all after inside fit past =
+      by (ltb bits (len k)) refl (λ (more : k + 1 ≤ m). end-is n (k + 1) m (omega arith) more inside (λ j h g. fit j (omega arith) g) past)
+    where
+      by : (b : Bool) → b ≡ ltb bits (len k) → (k + 1 ≤ m → m ≡ end n (k + 1)) → m ≡ cond b k (end n (k + 1))
+      by true e rest =
+          let long : bits < len k = ltb→lt bits (len k) (subst T e tt) in
+          elim (ℕ-discrete m k) [
+            | yes same ↦ same
+            | no apart ↦ let short = fit k (omega arith) (omega arith) in absurd (omega arith)
+          ]
+      by false e rest =
+          let short : len k ≤ bits = nltb→le bits (len k) (subst (λ (b : Bool). T (not b)) e tt) in
+          elim (ℕ-discrete m k) [
+            | yes same ↦ let long : bits < len k = subst (λ (x : ℕ). bits < len x) same (past (omega arith)) in absurd (omega arith)
+            | no apart ↦ rest (omega arith)
+          ]
+
   -- after an event that is too long none fits
   none-fits : (n k : ℕ) → ((j : ℕ) → k ≤ j → j < k + n → bits < len j) → filter (atMost bits) (map read (upFrom k n)) ≡ []
   unfolding errorEvent
@@ -110,6 +131,10 @@ module _ (table : List Event) (bits from last : ℕ) (rising : from ≤ last) (s
 
   pub fitting-inside : to ≤ last
   fitting-inside = end-inside table bits last (last - from) from all
+
+  pub fitting-is : (m : ℕ) → from ≤ m → m ≤ last → ((j : ℕ) → from ≤ j → j < m → len table bits last j ≤ bits)
+      → (m < last → bits < len table bits last m) → m ≡ to
+  fitting-is m = end-is table bits last (last - from) from m all
 
   pub fitting-segment : Segment table from to
   fitting-segment =

@@ -2,13 +2,13 @@
 // or the chain as it is where it is not turned, are appended to the path table. The tables of `bounds`, kept in the work area, tell which events are
 // worth joining.
 ghost use mathlib.Core.Path.{_≡_};
-ghost use Prim.Native.Nat.{_-_, _≤_, _<_};
+ghost use Prim.Native.Nat.{_+_, _-_, _/_, _≤_, _<_};
 ghost use mathlib.Core.Bool.{cond};
 ghost use lib.Dec.{ltb};
 ghost use lib.ListN.{length};
 ghost use Rattle.paths.specs.Model.Joining.{turns, firstOr};
 ghost use Rattle.bounds.specs.Model.Places.{areaSize};
-ghost use Rattle.bounds.specs.Model.Tables.{bitsAt, endAt, surveyed, Small};
+ghost use Rattle.bounds.specs.Model.Tables.{bitsAt, endAt, surveyed, Small, Segment};
 ghost use Rattle.rotations.specs.Model.Put.{puts};
 ghost use Rattle.chains.specs.Model.Chaining.{inputsOf, extended, found, foundBy, unbegun, fittingEnd, weighed, stateListed, lighterListed, weightListed, Noted, ToExtend, ToEmit, ToJoin, ToChain, ToListState, ToListWeight};
 use bounds::BITS_AT;
@@ -145,7 +145,7 @@ fn bits_of(work: &[u64]) -> u64
     work[BITS_AT]
 }
 
-// Place k where event e, which stands there, is longer than `bits` steps; else `end`.
+// Place k where event e is longer than `bits` steps; else `end`.
 fn end_by(e: Event, bits: u64, k: usize, end: usize) -> usize
     ensures { λ r. ⌜ r ≡ cond (ltb bits (e .length)) k end ⌝ }
 {
@@ -155,19 +155,31 @@ fn end_by(e: Event, bits: u64, k: usize, end: usize) -> usize
     end
 }
 
-// The place of the first event from `from` on that is longer than `bits` steps; `to` where there is none.
+// The place halfway between two.
+fn halfway(low: usize, high: usize) -> usize
+    requires { ⌜ low ≤ high ⌝ }
+    ensures { λ r. ⌜ r ≡ low + (high - low) / 2 ⌝ }
+{
+    low + (high - low) / 2
+}
+
+// The place of the first event from `from` on that is longer than `bits` steps; `to` where there is none. Events stand by length, so it is found by
+// halving: to read them all would be one more pass over a table that may be large.
 fn fitting_end(events: &[Event], from: usize, to: usize, bits: u64) -> usize
-    requires { ⌜ to ≤ length (now events) ⌝ }
+    requires { ⌜ (to ≤ length (now events)) × ((from ≤ to) × Segment (now events) from to) ⌝ }
     ensures { λ r. ⌜ r ≡ fittingEnd (now (events .entry)) bits to (to - from) from ⌝ }
 {
-    let mut end = to;
-    let mut k = from;
-    while k < end {
+    let mut low = from;
+    let mut high = to;
+    while low < high {
+        let k = halfway(low, high);
         let e = event_at(events, k);
-        end = end_by(e, bits, k, end);
-        k += 1;
+        // where e is too long the place is not after k, else it is
+        let next = end_by(e, bits, low, k + 1);
+        high = end_by(e, bits, k, high);
+        low = next;
     }
-    end
+    low
 }
 
 // The events from place `from` to before place `to` are noted in the tables.

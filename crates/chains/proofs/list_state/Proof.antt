@@ -65,7 +65,7 @@ module _ {M : Type 1} (𝓤 : URA M) (H : Heap 𝓤) (𝓜 : Model 𝓤 H) (𝓖
       unshares-at ! tt 1 work (work .was) refl v refl $
       let fitting : List Par = the events ∷ res number f f-ok ∷ res number l l-ok ∷ res number bits bits-ok ∷ [] in
       calls-into 𝓣 ! 3 (0 ∷ []) fitting number none (λ xs. fitting-end.met 𝓤 H 𝓜 𝓖 𝓡 (bound fitting xs, tt))
-      (asks (givenOf 𝓤 H 𝓜 𝓖) (asks-fitting ask is-l)) tt refl refl (λ t t-ok _ is-t _.
+      (asks (givenOf 𝓤 H 𝓜 𝓖) (asks-fitting ask is-f is-l)) tt refl refl (λ t t-ok _ is-t _.
       let b : Bounds (events .was) (work .was) (i .it) = record { from = f; to = t; is-from = is-f; is-to = ends-at _ _ _ is-f is-l is-bits is-t } in
       -- the tables opened, the events noted, and closed
       relend ! 3 work refl refl $

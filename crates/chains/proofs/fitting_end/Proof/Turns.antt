@@ -1,57 +1,83 @@
--- Where the loop of `fitting_end` stands: the place sought from there on is that sought from the first. Where an event is too long its own place
--- becomes the end, and no turn follows.
+-- Where the loop of `fitting_end` stands: the events before `low` fit, and the one at `high` is too long unless none stands there. That stays so, since
+-- all before an event that fits are no longer (`turned`); and where the two places meet they are the one sought (`met`).
 -- Assumes nothing.
-use Prim.Native.Nat.{ℕ, suc, _+_, _-_, _≤_, _<_, _^_}
+use Prim.Native.Nat.{ℕ, _+_, _-_, _≤_, _<_}
+use native.Mathlib.Decide.{ℕ-discrete}
 use native.Mathlib.Omega.{arith}
-use mathlib.Core.Path.{_≡_, refl, sym, ap, _∙_, subst}
-use mathlib.Core.Bool.{Bool, true, false, cond}
+use mathlib.Core.Path.{_≡_, sym, ap, subst}
+use mathlib.Core.Bool.{Bool, true, false, not, cond}
 use mathlib.Core.List.{List}
-use lib.Dec.{ltb}
+use lib.Dec.{T, ltb, ltb→lt, nltb→le}
 use lib.ListN.{getD}
 use Rattle.events.specs.declared.Event.{Event}
 use Rattle.events.specs.Events.{noEvent}
+use Rattle.bounds.specs.Model.Tables.{Segment}
 use Rattle.chains.specs.Model.Chaining.{fittingEnd}
+use Rattle.chains.proofs.Fitting.{fitting-is}
 
 module _ (table : List Event) (from to bits : ℕ) where
-  -- at place k, with the place `end` where no event before it is too long
+  abbrev len : ℕ → ℕ
+  len k = getD table k noEvent .length
+
+  pub record Standing (low high : ℕ) : Type 0 where
+    pub begun : from ≤ low
+    pub rises : low ≤ high
+    pub inside : high ≤ to
+    pub fit : (j : ℕ) → from ≤ j → j < low → len j ≤ bits
+    pub past : high < to → bits < len high
+
   pub record Stage : Type 0 where
-    pub k : ℕ
-    pub end : ℕ
-    pub fits : k < 2 ^ 64
-    pub inside : end ≤ to
-    pub left : fittingEnd table bits end (end - k) k ≡ fittingEnd table bits to (to - from) from
+    pub low : ℕ
+    pub high : ℕ
+    pub stands : Standing low high
 
-  module _ (x : Stage) where
-    -- the end after one event more
-    abbrev next-by : Event → ℕ
-    next-by e = cond (ltb bits (e .length)) (x .k) (x .end)
+  pub at-first : from ≤ to → Standing from to
+  at-first rising = record {
+    begun = omega arith;
+    rises = rising;
+    inside = omega arith;
+    fit = λ j h g. absurd (omega arith);
+    past = λ h. absurd (omega arith);
+  }
 
-    next-of : (b : Bool) → x .k < x .end → cond b (x .k) (x .end) ≤ x .end
-    next-of true less = omega arith
-    next-of false less = omega arith
+  module _ (rising : from ≤ to) (seg : Segment table from to) (x : Stage) where
+    pub met : x .high ≤ x .low → x .low ≡ fittingEnd table bits to (to - from) from
+    met over =
+        let s = x .stands in
+        let a = s .rises in
+        let b = s .inside in
+        let same : x .high ≡ x .low = omega arith in
+        fitting-is table bits from to rising seg (x .low) (s .begun) (omega arith) (s .fit)
+        (subst (λ (y : ℕ). y < to → bits < len y) same (s .past))
 
-    pub next-le : (e : Event) {next : ℕ} → x .k < x .end → next ≡ next-by e → next ≤ x .end
-    next-le e less is = subst (λ (y : ℕ). y ≤ x .end) (sym is) (next-of (ltb bits (e .length)) less)
+    -- after the event at place k is read
+    abbrev Next : ℕ → ℕ → Type 0
+    Next low high = Standing low high × (high - low < x .high - x .low)
 
-    turn : (b : Bool) → fittingEnd table bits (cond b (x .k) (x .end)) (cond b (x .k) (x .end) - (x .k + 1)) (x .k + 1)
-        ≡ cond b (x .k) (fittingEnd table bits (x .end) (x .end - (x .k + 1)) (x .k + 1))
-    unfolding fittingEnd
-    turn true =
-        let none : x .k - (x .k + 1) ≡ 0 = omega arith in
-        ap (λ (n : ℕ). fittingEnd table bits (x .k) n (x .k + 1)) none
-    turn false = refl
+    turn : (k : ℕ) → x .low ≤ k → k < x .high → (b : Bool) → b ≡ ltb bits (len k) → Next (cond b (x .low) (k + 1)) (cond b k (x .high))
+    turn k after before true e =
+        let s = x .stands in
+        let a = s .inside in
+        (record { begun = s .begun; rises = after; inside = omega arith; fit = s .fit; past = λ h. ltb→lt bits (len k) (subst T e tt) }, omega arith)
+    turn k after before false e =
+        let s = x .stands in
+        let a = s .begun in
+        let c = s .inside in
+        let short : len k ≤ bits = nltb→le bits (len k) (subst (λ (b : Bool). T (not b)) e tt) in (
+          record {
+            begun = omega arith;
+            rises = omega arith;
+            inside = s .inside;
+            fit = λ j h g. elim (ℕ-discrete j k) [
+              | yes same ↦ subst (λ (y : ℕ). len y ≤ bits) (sym same) short
+              | no apart ↦ let less = seg .ordered j k h (omega arith) (omega arith) in omega arith
+            ];
+            past = s .past;
+          },
+          omega arith,
+        )
 
-    pub left-again : (e : Event) {next : ℕ} → x .k < x .end → e ≡ getD table (x .k) noEvent → next ≡ next-by e
-        → fittingEnd table bits next (next - (x .k + 1)) (x .k + 1) ≡ fittingEnd table bits to (to - from) from
-    unfolding fittingEnd
-    left-again e less read is =
-        let one : x .end - x .k ≡ suc (x .end - (x .k + 1)) = omega arith in
-        ap (λ (y : ℕ). fittingEnd table bits y (y - (x .k + 1)) (x .k + 1)) (is ∙ ap next-by read)
-        ∙ turn (ltb bits (getD table (x .k) noEvent .length))
-        ∙ sym (ap (λ (n : ℕ). fittingEnd table bits (x .end) n (x .k)) one) ∙ x .left
-
-    pub all-seen : x .end ≤ x .k → x .end ≡ fittingEnd table bits to (to - from) from
-    unfolding fittingEnd
-    all-seen over =
-        let none : x .end - x .k ≡ 0 = omega arith in
-        sym (ap (λ (n : ℕ). fittingEnd table bits (x .end) n (x .k)) none) ∙ x .left
+    pub turned : (k : ℕ) (e : Event) {low high : ℕ} → x .low ≤ k → k < x .high → e ≡ getD table k noEvent
+        → low ≡ cond (ltb bits (e .length)) (x .low) (k + 1) → high ≡ cond (ltb bits (e .length)) k (x .high) → Next low high
+    turned k e after before read is-low is-high =
+        rw (is-low, is-high) (turn k after before (ltb bits (e .length)) (ap (λ (y : Event). ltb bits (y .length)) read))

@@ -9,7 +9,7 @@ use Rattle.events.specs.declared.Event.{Event}
 use Rattle.rotations.specs.Model.Put.{puts}
 use Rattle.bounds.specs.declared.Chain.{Chain}
 use Rattle.bounds.specs.Model.Places.{stateCount}
-use Rattle.bounds.specs.Model.Tables.{firstOf, bitsAt, surveyed, opened, closed, Small}
+use Rattle.bounds.specs.Model.Tables.{firstOf, bitsAt, surveyed, opened, closed, Small, Segment}
 use Rattle.chains.specs.Model.Chaining.{fittingEnd, stateEnd, tabled, weighed, atState, found, unbegun, stateListed, Noted, ToChain, ToListState}
 use Rattle.chains.proofs.Unfinished.{unbegun-unfinished}
 use Rattle.chains.proofs.States.{state-noted, state-small, tabled-small, state-ready, bits-atState, joins-at-state}
@@ -29,12 +29,13 @@ ends-at table work i {f} is-f is-l is-bits is =
     ∙ ap (λ (x : ℕ). fittingEnd table (bitsAt work) (firstOf work (i + 1)) (firstOf work (i + 1) - x) x) is-f
 
 module _ {table : List Event} {work paths : List ℕ} {at i first w : ℕ} (ask : ToListState table work paths at i first w) where
-  pub asks-fitting : {l : ℕ} → l ≡ firstOf work (i + 1) → l ≤ length table
-  asks-fitting is =
+  pub asks-fitting : {f l : ℕ} → f ≡ firstOf work i → l ≡ firstOf work (i + 1) → (l ≤ length table) × ((f ≤ l) × Segment table f l)
+  asks-fitting is-f is-l =
       let few = ask .state-small in
-      let rises = ask .indexed .rises (i + 1) stateCount (omega arith) (omega arith) in
+      let rises = ask .indexed .rises i (i + 1) (omega arith) (omega arith) in
+      let to-last = ask .indexed .rises (i + 1) stateCount (omega arith) (omega arith) in
       let inside = ask .indexed .inside in
-      omega arith
+      (omega arith, (omega arith, rw (is-f, is-l) (ask .indexed .segment i few)))
 
   module _ (b : Bounds table work i) where
     pub asks-survey : Noted table (b .from) (b .to)
