@@ -9,7 +9,7 @@ use mathlib.Core.Path.{_≡_, refl, sym, ap, _∙_, subst}
 use mathlib.Core.Bool.{not, cond}
 use mathlib.Core.Logic.{⊎-elim, _≢_}
 use mathlib.Core.List.{List, [], _∷_, _++_, flatMap, map, List·Memᴰ, Memᴰ·of-map}
-use lib.Dec.{T, leb, ltb, eqb, leb→le, ltb→lt, eqb→eq, not-T, nleb→lt}
+use lib.Dec.{T, leb, eqb, leb→le, ltb→lt, eqb→eq, not-T, nleb→lt}
 use lib.Pow.{split}
 use lib.ListN.{length, getD}
 use Rattle.lists.specs.Lists.{upFrom}
@@ -30,7 +30,7 @@ use Rattle.bounds.specs.Model.Tables.{startAt, endAt, bitsAt, leastAt, fillAt, 
 use Rattle.bounds.proofs.ZeroLoops.{zero-loop}
 use Rattle.bounds.proofs.Decided.{fits, whole, spare, ending, spent, ending-parts, not-whole, fit-parts, decided-skipped, decided-complete, decided-continued}
 use Rattle.bounds.proofs.Looked.{Useless}
-use Rattle.chains.specs.Model.Chaining.{inputsOf, wordOf, errorEvent, atHand, extended, found, foundBy, Joinable, Calming, Joins, Unfinished}
+use Rattle.chains.specs.Model.Chaining.{inputsOf, wordOf, errorEvent, atHand, extended, found, foundBy, Joinable, Joins, Unfinished}
 
 pub word-extended : (N : ℕ) (begun : Chain) (e : Event)
     → inputsOf (extended N begun e) ≡ inputsOf begun + wordOf e * 2 ^ (N - begun .steps)

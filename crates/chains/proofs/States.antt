@@ -16,16 +16,16 @@ use Rattle.events.specs.Events.{ErrorEvent}
 use Rattle.events.proofs.Shorter.{atMost}
 use Rattle.paths.specs.Chains.{steps, cost}
 use Rattle.paths.proofs.Pruned.{joined-none}
-use lib.ListN.{length, getD, set}
+use lib.ListN.{length, getD}
 use Rattle.events.specs.declared.Event.{Event}
 use Rattle.events.specs.Events.{noEvent}
-use Rattle.bounds.specs.Model.Places.{stateCount, tooHeavy, lightPlace}
+use Rattle.bounds.specs.Model.Places.{stateCount, tooHeavy}
 use Rattle.bounds.specs.Model.Tables.{firstOf, startAt, endAt, bitsAt, fillAt, lightAt, wholeAt, wholeKept, surveyed, opened, isZeroLoop, lightOf, Small, Ready, Segment}
 use Rattle.bounds.proofs.Kept.{Noteworthy, length-survives, firstOf-survives, wholeAt-survives, bitsAt-survives}
 use Rattle.bounds.proofs.Wholes.{length-kept, bits-kept, first-kept, fill-kept, whole-same, whole-other}
 use Rattle.bounds.proofs.Carried.{highest}
 use Rattle.bounds.proofs.ZeroLoops.{loop-told}
-use Rattle.bounds.proofs.Weighed.{length-weighed, bits-weighed, end-weighed, first-weighed, whole-weighed, start-weighed, light-weighed, ready-weighed, first-loop, weighs-least}
+use Rattle.bounds.proofs.Weighed.{length-weighed, bits-weighed, first-weighed, whole-weighed, start-weighed, light-weighed, ready-weighed, first-loop, weighs-least}
 use Rattle.bounds.proofs.Ready.{segment-noteworthy, closed-start, segment-small, ready}
 use Rattle.chains.specs.Model.Chaining.{errorEvent, eventsBetween, atHand, found, unbegun, stateEnd, tabled, lightFrom, weighed, atState, afterState, Joinable, Calming, Joins, Noted, Indexed}
 use Rattle.chains.proofs.Found.{some-step, least-whole}

@@ -16,7 +16,6 @@ use Rattle.lists.proofs.Choices.{eqb-passes, eqb-fails, cond-true, cond-false}
 use Rattle.events.specs.Events.{ErrorEvent}
 use Rattle.paths.specs.Chains.{steps, cost}
 use Rattle.paths.specs.Model.Joining.{turns, firstOr, fitsIn, joining, joined}
-use Rattle.paths.proofs.Chains.{Fills}
 use Rattle.paths.proofs.Joined.{firstOr-again}
 use Rattle.paths.proofs.Pruned.{joined-none}
 
