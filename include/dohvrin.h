@@ -455,8 +455,9 @@ struct dohvrin_answer dohvrin_refusal_text(uint64_t number, uint8_t *text, size_
   in 2 bytes, the higher first; the version, n, v, N, m and d, a byte each; n
   generators of 2 bytes, the higher first. Version 1 is a tail-biting link, 2 a
   terminated one. Accepted: the order, in which the calls above find nothing to
-  refuse. Refusals: 1 to 9 and 16, in this order. The bytes are only read; that
-  the pointer has `size` of them cannot be checked.
+  refuse, but for a quote, which refuses a terminated link by 2. Refusals: 1 to 9
+  and 16, in this order. The bytes are only read; that the pointer has `size` of
+  them cannot be checked.
 */
 struct dohvrin_order_answer dohvrin_read_order(const uint8_t *bytes, size_t size);
 
