@@ -3,6 +3,9 @@
 use crate::numbers::Numbers;
 use dohvrin::{AnyOrder, Entries, Order, Quote, Refusal, Row, Tables};
 
+/// The word before the length of a quote in a list.
+pub const QUOTE: &str = "quote";
+
 #[derive(Clone, Copy, Debug, PartialEq, Eq)]
 pub enum Asked {
     /// The row of the best polynomial.
@@ -35,6 +38,16 @@ impl Asked {
         match self {
             Asked::Best | Asked::Of(_) => numbers.clone(),
             Asked::Quote(bits) => numbers.with_bits(bits),
+        }
+    }
+
+    /// The line of a refused one in a list. Of a quote it is that of the order
+    /// itself, after the length: an order of that length may well have a row.
+    pub fn line(self, numbers: &Numbers) -> String {
+        let order = format!("{}{numbers}", numbers.kind_before());
+        match self {
+            Asked::Best | Asked::Of(_) => order,
+            Asked::Quote(bits) => format!("{QUOTE} {bits} {order}"),
         }
     }
 }

@@ -1,6 +1,8 @@
 //! Whether rows that were printed before are what is computed now.
 
 use crate::args::Args;
+use crate::asked::{Asked, QUOTE};
+use crate::desk::Desk;
 use crate::jobs::{self, Notes};
 use crate::numbers::{digits, kind_of, Numbers};
 use crate::{put, text_of, Stop};
@@ -45,8 +47,10 @@ pub fn write(file: &str, args: &Args) -> Result<(), Stop> {
     let (mut at, mut differ) = (0, 0);
     let asked = args.asked[0];
     let compare = move |row: &Vec<String>, notes: Notes| {
-        let lines = |numbers: &Numbers| desk.lines(numbers, asked, notes);
-        (row[0].trim().to_string(), verdict(row, link, lines))
+        let head = Head::of(&row[0]);
+        let asked = head.quote.map_or(asked, Asked::Quote);
+        let lines = |numbers: &Numbers| lines(&desk, numbers, asked, notes);
+        (row[0].trim().to_string(), verdict(row, head, link, lines))
     };
     jobs::run(rows, args.jobs, compare, |(order, verdict)| {
         at += 1;
@@ -61,13 +65,26 @@ pub fn write(file: &str, args: &Args) -> Result<(), Stop> {
     }
 }
 
-/// The rows of a text: each begins at an ORDER line, before which the kind of
-/// link may have been written. Empty lines are passed over; the error is a line
-/// that stands before the first ORDER line.
+/// What is computed now, under the line of the order itself: that is what a row
+/// has before which a length to quote stands.
+fn lines(desk: &Desk, numbers: &Numbers, asked: Asked, notes: Notes) -> String {
+    let text = match desk.one_of(numbers, asked, notes) {
+        Ok(row) => row.text(),
+        Err(refusal) => return format!("{numbers}\n{}", refusal.text()),
+    };
+    match (asked, text.split_once('\n')) {
+        (Asked::Quote(_), Some((_, rest))) => format!("{numbers}\n{rest}"),
+        _ => text,
+    }
+}
+
+/// The rows of a text: each begins at an ORDER line, before which a length to
+/// quote and the kind of link may stand. Empty lines are passed over; the error
+/// is a line that stands before the first ORDER line.
 fn rows(text: &str) -> Result<Vec<Vec<String>>, String> {
     let mut rows: Vec<Vec<String>> = Vec::new();
     for line in text.split('\n').filter(|line| !line.trim().is_empty()) {
-        if without_kind(line).split_whitespace().next() == Some("ORDER") {
+        if Head::of(line).order.split_whitespace().next() == Some("ORDER") {
             rows.push(Vec::new());
         }
         match rows.last_mut() {
@@ -78,22 +95,41 @@ fn rows(text: &str) -> Result<Vec<Vec<String>>, String> {
     Ok(rows)
 }
 
-/// The line without a kind of link at its beginning.
-fn without_kind(line: &str) -> &str {
-    match line.split_once(' ') {
-        Some((word, rest)) if kind_of(word).is_some() => rest,
-        _ => line,
+/// The line at which a row begins, with what a list has before ORDER.
+struct Head<'a> {
+    /// The length that was to be quoted.
+    quote: Option<u64>,
+    kind: Option<Link>,
+    /// The line from ORDER on.
+    order: &'a str,
+}
+
+impl Head<'_> {
+    fn of(line: &str) -> Head<'_> {
+        let quote = first(line, |word| (word == QUOTE).then_some(()));
+        let quote = quote.and_then(|(_, rest)| first(rest, |word| digits(word, 10)));
+        let (quote, line) = quote.map_or((None, line), |(bits, rest)| (Some(bits), rest));
+        let kind = first(line, kind_of);
+        let (kind, order) = kind.map_or((None, line), |(kind, rest)| (Some(kind), rest));
+        Head { quote, kind, order }
     }
 }
 
+/// What the first word of a line says, and the line after it.
+fn first<T>(line: &str, says: impl Fn(&str) -> Option<T>) -> Option<(T, &str)> {
+    let (word, rest) = line.split_once(' ')?;
+    Some((says(word)?, rest))
+}
+
 /// How a printed row compares with what is computed now. A row does not say the
-/// kind of its link: one that holds for the other kind is told as that.
-fn verdict(row: &[String], link: Link, lines: impl Fn(&Numbers) -> String) -> Verdict {
-    let numbers = match Numbers::read_line(&row[0], link) {
+/// kind of its link, where no one wrote it before: one that holds for the other
+/// kind is told as that.
+fn verdict(row: &[String], head: Head, link: Link, lines: impl Fn(&Numbers) -> String) -> Verdict {
+    let numbers = match Numbers::read_line(head.order, head.kind.unwrap_or(link)) {
         Ok(numbers) => numbers,
         Err(message) => return Verdict::Differs(format!("it is no order: {message}")),
     };
-    let (row, now) = (Printed::of(row), lines(&numbers));
+    let (row, now) = (Printed::of(row, head.order), lines(&numbers));
     let Some(how) = row.unlike(&now) else {
         return row.form(&now);
     };
@@ -102,14 +138,14 @@ fn verdict(row: &[String], link: Link, lines: impl Fn(&Numbers) -> String) -> Ve
         return Verdict::Differs(format!("{how}; {hint}"));
     }
     let other = numbers.for_other_link();
-    let hint = match row.unlike(&lines(&other)) {
-        None => format!(
-            "; it is the row of a {} link (see --terminated)",
-            other.link()
-        ),
-        Some(_) => String::new(),
-    };
-    Verdict::Differs(how + &hint)
+    if row.unlike(&lines(&other)).is_some() {
+        return Verdict::Differs(how);
+    }
+    let hint = format!("it is the row of a {} link", other.link());
+    Verdict::Differs(match head.kind {
+        Some(kind) => format!("{how}; {hint}, and {kind} stands before it"),
+        None => format!("{how}; {hint} (see --terminated)"),
+    })
 }
 
 /// The number that a CRC line of the older form lacks, where all before it is
@@ -121,16 +157,16 @@ fn lacked<'a>(line: &str, now: &'a str) -> Option<&'a str> {
 
 /// A row as it was printed.
 struct Printed<'a> {
-    /// Without a kind of link, and without the line of weight 0 of the older form.
+    /// From ORDER on, and without the line of weight 0 of the older form.
     lines: Vec<&'a str>,
     /// The place of that line, where there was one.
     weight_0: Option<usize>,
 }
 
 impl Printed<'_> {
-    fn of(row: &[String]) -> Printed<'_> {
-        let mut lines: Vec<&str> = row.iter().map(String::as_str).collect();
-        lines[0] = without_kind(lines[0]);
+    fn of<'a>(row: &'a [String], order: &'a str) -> Printed<'a> {
+        let rest = row[1..].iter().map(String::as_str);
+        let mut lines: Vec<&str> = std::iter::once(order).chain(rest).collect();
         let older = |two: &[&str]| two[0].starts_with("PATHS ") && two[1] == WEIGHT_0;
         let paths = lines.windows(2).position(older);
         let weight_0 = paths.map(|place| place + 1);

@@ -51,10 +51,9 @@ impl Desk {
         }
     }
 
-    /// The lines of a row that is asked for, or of its refusal under its ORDER
-    /// line.
-    pub fn lines(&self, numbers: &Numbers, asked: Asked, notes: Notes) -> String {
-        let line = asked.printed(numbers).to_string();
+    /// The row that is asked for, one of several: notes have its line before them.
+    pub fn one_of(&self, numbers: &Numbers, asked: Asked, notes: Notes) -> Result<Row, Refusal> {
+        let line = asked.line(numbers);
         notes(Note::Now(line.replace("ORDER ", "")));
         let about = |note| {
             if let Note::Tell(message) = note {
@@ -62,10 +61,7 @@ impl Desk {
             }
         };
         let row = |wanted: Wanted| self.row(&wanted, &about).answer;
-        match asked.of(numbers.any()).and_then(row) {
-            Ok(row) => row.text(),
-            Err(refusal) => format!("{line}\n{}", refusal.text()),
-        }
+        asked.of(numbers.any()).and_then(row)
     }
 
     /// The row, with tables of these sizes at first: where they are too small

@@ -3,8 +3,8 @@
 use crate::args::Args;
 use crate::asked::Asked;
 use crate::numbers::Numbers;
-use crate::{jobs, put_row, text_of, Stop};
-use dohvrin::Link;
+use crate::{jobs, json, put, text_of, Stop};
+use dohvrin::{Link, Refusal, Row};
 
 /// Writes one row after another, in the order of the file, each by one write.
 /// All lines are read before the first is made.
@@ -14,15 +14,34 @@ pub fn write(file: &str, args: &Args) -> Result<(), Stop> {
     if orders.is_empty() {
         return Err(wrong("no order in it".to_string()));
     }
-    let desk = args.desk();
+    let (desk, as_json) = (args.desk(), args.json);
     let lines = move |(numbers, asked): &(Numbers, Asked), notes: jobs::Notes| {
-        let row = desk.lines(numbers, *asked, notes);
-        (numbers.link(), row)
+        let answer = desk.one_of(numbers, *asked, notes);
+        match as_json {
+            true => in_json(numbers, *asked, answer),
+            false => in_lines(numbers, *asked, answer),
+        }
     };
     let rows = rows(&orders, &args.asked);
-    jobs::run(rows, args.jobs, lines, |(link, row)| {
-        Ok(put_row(&row, link, args.json)?)
-    })
+    jobs::run(rows, args.jobs, lines, |row| Ok(put(row.as_bytes())?))
+}
+
+/// A row or a refusal as `--check` reads it again: the kind of link, which a row
+/// does not say, stands before it.
+fn in_lines(numbers: &Numbers, asked: Asked, answer: Result<Row, Refusal>) -> String {
+    match answer {
+        Ok(row) => numbers.kind_before() + &row.text(),
+        Err(refusal) => format!("{}\n{}", asked.line(numbers), refusal.text()),
+    }
+}
+
+/// The same as JSON, which has a place for the kind.
+fn in_json(numbers: &Numbers, asked: Asked, answer: Result<Row, Refusal>) -> String {
+    let text = match answer {
+        Ok(row) => row.text(),
+        Err(refusal) => format!("{}\n{}", asked.printed(numbers), refusal.text()),
+    };
+    json::of(&text, numbers.link())
 }
 
 /// All that is asked for of each order in turn.

@@ -82,6 +82,15 @@ impl Numbers {
         self.link
     }
 
+    /// What stands before its ORDER line in a list, since that line has no kind:
+    /// nothing for a tail-biting link.
+    pub fn kind_before(&self) -> String {
+        match self.link {
+            Link::TailBiting => String::new(),
+            Link::Terminated => format!("{} ", self.link),
+        }
+    }
+
     /// The same numbers with this N.
     pub fn with_bits(&self, bits: u64) -> Numbers {
         Numbers {

@@ -161,6 +161,60 @@ fn any_number_of_jobs_checks_the_same() {
     }
 }
 
+/// Orders of both kinds of link, right ones and those that questions 3 to 9 and
+/// 16 refuse, with N around the lengths that are quoted.
+fn both_kinds() -> String {
+    let orders = [
+        "2 1 4 2 6 1 3",
+        "2 1 3 2 6 1 3",
+        "2 1 4 2 5 1 3",
+        "2 3 70 6 12 13 17",
+        "2 3 40 6 14 13 17",
+        "3 2 20 4 9 5 7 7",
+        "5 1 4 2 6 1 3 1 3 1",
+        "2 9 40 2 6 1 3",
+        "2 1 129 2 6 1 3",
+        "2 1 4 4 6 1 3",
+        "2 1 4 2 0 1 3",
+        "2 1 4 2 6 1 4",
+        "2 1 4 2 6 2 2",
+        "2 2 40 2 6 5 3",
+        "2 8 76 12 21 561 753",
+    ];
+    let kinds = ["", "terminated ", "tail-biting ORDER ", "terminated ORDER "];
+    let lines = orders.iter().zip(kinds.iter().cycle());
+    let first = lines.map(|(order, kind)| format!("{kind}{order}\n"));
+    let again = orders.iter().map(|order| format!("terminated {order}\n"));
+    first.chain(again).collect()
+}
+
+#[test]
+fn a_list_is_the_same_when_it_is_checked() {
+    let orders = both_kinds();
+    for (list, check) in [
+        ("", ""),
+        ("--terminated", ""),
+        ("--quote 70,64", ""),
+        ("--terminated --quote 40,7,3", ""),
+        ("--quote 4,3,0,5,20,128,129", ""),
+        ("--of 0x43", "--of 0x43"),
+        ("--events 60 --paths 50", "--events 60 --paths 50"),
+        ("--events 4 --paths 50 --quote 3", "--events 4 --paths 50"),
+    ] {
+        let (list, check) = (format!("--memory 1 {list}"), format!("--memory 1 {check}"));
+        let rows = run_on(&format!("{list} --file -"), orders.as_bytes()).out;
+        assert!(rows.contains("terminated ORDER ") && rows.contains("NO "));
+        let run = run_on(&format!("{check} --check -"), rows.as_bytes());
+        let lines: Vec<&str> = run.out.lines().collect();
+        let (last, said) = lines.split_last().unwrap();
+        for line in said {
+            assert!(line.ends_with(": the same"), "{list}: {line}");
+        }
+        assert!(said.len() >= 30 && last.ends_with(", different: 0"));
+        assert_eq!(run.status, 0, "{list}");
+    }
+}
+
 #[test]
 fn jobs_share_the_memory() {
     // Each needs more than half of it: they wait, and none is refused.

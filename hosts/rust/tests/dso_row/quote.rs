@@ -178,16 +178,16 @@ fn tables_take_the_events_of_the_order_and_the_paths_of_the_length() {
 #[test]
 fn each_order_of_a_list_gives_a_row_for_each_length() {
     let orders = "2 1 4 2 6 1 3\nterminated 2 1 4 2 6 1 3\n2 1 3 2 6 1 3\n2 1 4 3 6 1 3\n";
-    let refused = |first: &str, number: u64| format!("ORDER {first}\nNO {number}\n");
+    let refused = |first: &str, number: u64| format!("quote {first}\nNO {number}\n");
     let expected = [
         EXAMPLE.to_string(),
         ROW.to_string(),
-        refused("2 1 4 2 6 1 3", 2),
-        refused("2 1 3 2 6 1 3", 2),
-        refused("2 1 4 2 6 1 3", 5),
+        refused("4 terminated ORDER 2 1 4 2 6 1 3", 2),
+        refused("3 terminated ORDER 2 1 4 2 6 1 3", 2),
+        refused("4 ORDER 2 1 3 2 6 1 3", 5),
         ROW.to_string(),
         run_on("--file -", b"2 1 4 3 6 1 3").out,
-        refused("2 1 3 3 6 1 3", 6),
+        refused("3 ORDER 2 1 4 3 6 1 3", 6),
     ]
     .concat();
     for jobs in [1, 2, 100] {
@@ -209,4 +209,36 @@ fn quoted_rows_are_checked_as_any_others() {
     let check = run_on("--check -", rows.as_bytes());
     assert_eq!(check.status, 0, "{}", check.out);
     assert!(check.out.ends_with("rows checked: 3, different: 0\n"));
+}
+
+#[test]
+fn a_refused_quote_is_checked_as_a_quote() {
+    let check = |options: &str, row: &str| {
+        let run = run_on(&format!("{options} --check -"), row.as_bytes());
+        let first = run.out.lines().next().unwrap().to_string();
+        (run.status, first)
+    };
+    // An order of its own has a row for each of these lengths.
+    for (head, number) in [
+        ("quote 5 ORDER 2 1 4 2 6 1 3", 5),
+        ("quote 4 ORDER 2 1 129 2 6 1 3", 5),
+        ("quote 3 terminated ORDER 2 1 4 2 6 1 3", 2),
+    ] {
+        let same = (0, format!("row 1, {head}: the same"));
+        assert_eq!(check("", &format!("{head}\nNO {number}\n")), same);
+        let how = format!("line 2 of the row is \"NO 6\", now \"NO {number}\"");
+        let differs = (3, format!("row 1, {head}: DIFFERS, {how}"));
+        assert_eq!(check("", &format!("{head}\nNO 6\n")), differs);
+    }
+    // Refused by 13 for N = 4, where N' = 3 alone would have room.
+    let row = "quote 3 ORDER 2 1 4 2 6 1 3\nNO 13\n";
+    let same = "row 1, quote 3 ORDER 2 1 4 2 6 1 3: the same".to_string();
+    assert_eq!(check("--events 4 --paths 7", row), (0, same));
+    let (status, said) = check("", row);
+    assert_eq!(status, 3);
+    let how = "line 2 of the row is \"NO 13\", now \"EVENTS 4\"";
+    assert!(said.ends_with(how), "{said}");
+    let (status, said) = check("", "quote 3 ORDER 2 1 4 2 9 1 3 1\nNO 3\n");
+    assert_eq!(status, 3);
+    assert!(said.ends_with("n is 2, but the generators are 3"), "{said}");
 }

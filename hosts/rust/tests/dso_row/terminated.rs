@@ -94,12 +94,13 @@ terminated 2 1 3 2 6 1 3
 tail-biting ORDER 2 1 3 2 6 1 3
 ";
     let other = tail_biting();
+    let (row, shared) = (format!("terminated {ROW}"), format!("terminated {SHARED}"));
     let list = run_on("--file -", orders.as_bytes());
-    let expected = format!("{ROW}{other}{SHARED}{other}");
+    let expected = format!("{row}{other}{shared}{other}");
     assert_eq!((list.status, list.out), (0, expected));
     // The option is for the lines that say nothing.
     let list = run_on("--terminated --file -", orders.as_bytes()).out;
-    assert_eq!(list, format!("{ROW}{ROW}{SHARED}{other}"));
+    assert_eq!(list, format!("{row}{row}{shared}{other}"));
     let json = run_on("--json --file -", orders.as_bytes()).out;
     let kinds: Vec<bool> = json
         .lines()
@@ -127,6 +128,26 @@ fn a_row_that_holds_for_the_other_kind_is_told_as_that() {
     let (status, said) = check("--terminated", &ROW.replace("PATHS 6", "PATHS 8"));
     assert_eq!(status, 3);
     assert!(said.ends_with("\"PATHS 8\", now \"PATHS 6\""), "{said}");
+    // The option has nothing to do with a row that says its kind.
+    let hint = "it is the row of a terminated link, and tail-biting stands before it";
+    let at = "row 1, tail-biting ORDER 2 1 3 2 6 1 3:";
+    let said = format!("{at} {now}; {hint}");
+    assert_eq!(
+        check("--terminated", &format!("tail-biting {ROW}")),
+        (3, said)
+    );
+}
+
+#[test]
+fn a_refused_order_of_a_list_says_its_kind() {
+    let orders = "terminated 2 1 3 2 0 1 3\n2 1 3 2 0 1 3\nterminated 2 8 128 4 64 561 753\n";
+    let list = run_on("--memory 1 --file -", orders.as_bytes());
+    let large = "terminated ORDER 2 8 128 4 64 561 753";
+    let small = "ORDER 2 1 3 2 0 1 3\nNO 7\n";
+    let expected = format!("terminated {small}{small}{large}\nNO 13\n");
+    assert_eq!((list.status, list.out), (0, expected));
+    let needed = format!("dso-row: {large}: the tables need ");
+    assert!(list.err.starts_with(&needed), "{}", list.err);
 }
 
 #[test]
