@@ -70,22 +70,19 @@
       int main(void) {
           const struct dohvrin_order order = {.version = DOHVRIN_TAIL_BITING,
                                               .n = 2, .v = 1, .bits = 4, .m = 2, .d = 6,
-                                              .g1 = 01, .g2 = 03};  // octal, as 0 leads in C
+                                              .generators = {01, 03}};  // octal: 0 leads
           const struct dohvrin_tables tables = {
               .events = events, .event_entries = 512,
               .paths = paths, .path_numbers = 2 * 2048,
               .plain = plain, .plain_entries = DOHVRIN_COUNTS,
               .undetected = undetected, .undetected_entries = DOHVRIN_COUNTS,
               .work = work, .work_numbers = DOHVRIN_WORK};
-          struct dohvrin_row row = dohvrin_search_in(order, tables);
-          struct dohvrin_answer written;
+          // A row or a refusal: the text is that of either.
+          const struct dohvrin_row row = dohvrin_search_in(order, tables);
+          const struct dohvrin_answer written =
+              dohvrin_row_text(order, row, plain, DOHVRIN_COUNTS, undetected, DOHVRIN_COUNTS,
+                               text, DOHVRIN_TEXT);
 
-          if (row.refusal != 0)
-              written = dohvrin_refusal_text(row.refusal, text, DOHVRIN_TEXT);
-          else
-              written = dohvrin_row_text(order, row.events, row.paths, row.polynomial,
-                                         row.shared, plain, DOHVRIN_COUNTS,
-                                         undetected, DOHVRIN_COUNTS, text, DOHVRIN_TEXT);
           fwrite(text, 1, written.value, stdout);
           return 0;
       }
@@ -109,11 +106,12 @@
   is the refusal; 0 says that there was none. Of an order, weigh and encode do
   not take m and d, collect and list do not take m: there they may be anything.
   The one exception is row_text, which asks only 2, 3, 7 and 10: a row is
-  printed as it is told, for an order that a call has accepted before. A
-  refused call has no other result: the rest of its answer is 0, and what was
-  lent to it is as it was; after 13 and 14, it is 0. A quote takes N, the
-  order's, and N'; where a question is about both, either can be refused. No
-  call gives 15 any more, and no other question has that number.
+  printed as it is told, for an order that a call has accepted before; and of a
+  refusal, which it prints as well, only 10, about the text. A refused call has
+  no other result: the rest of its answer is 0, and what was lent to it is as it
+  was; after 13 and 14, it is 0. A quote takes N, the order's, and N'; where a
+  question is about both, either can be refused. No call gives 15 any more, and
+  no other question has that number.
 
       no.  question                                                 asked by
        1   Are there 2 bytes, and does the length in them equal
@@ -191,7 +189,10 @@
 extern "C" {
 #endif
 
-/* What a call answers. The fields that a call does not name are 0. */
+/*
+  What the calls on words and texts answer. The fields that a call does not name
+  are 0.
+*/
 struct dohvrin_answer {
     uint64_t refusal; /* the number of the question that said no, or 0 */
     uint64_t value;   /* one number */
@@ -205,13 +206,13 @@ struct dohvrin_answer {
 
 /* An order, as the calls take it. The comments say what no question refuses. */
 struct dohvrin_order {
-    uint64_t version;        /* the kind of link: 1 tail-biting, 2 terminated */
-    uint64_t n;              /* how many generators, 2 to 4 */
-    uint64_t v;              /* the memory, 1 to 8 */
-    uint64_t bits;           /* N, the bits of a word, v to 128 */
-    uint64_t m;              /* the check degree, 1 to 12 and below N */
-    uint64_t d;              /* the threshold on weights, 1 to 64 */
-    uint64_t g1, g2, g3, g4; /* the generators; those past the n-th do not matter */
+    uint64_t version;       /* the kind of link: 1 tail-biting, 2 terminated */
+    uint64_t n;             /* how many generators, 2 to 4 */
+    uint64_t v;             /* the memory, 1 to 8 */
+    uint64_t bits;          /* N, the bits of a word, v to 128 */
+    uint64_t m;             /* the check degree, 1 to 12 and below N */
+    uint64_t d;             /* the threshold on weights, 1 to 64 */
+    uint64_t generators[4]; /* those past the n-th do not matter */
 };
 
 /* An order as its record gives it, or a refusal and an order of zeros. */
@@ -229,20 +230,17 @@ struct dohvrin_event {
     uint64_t high;   /* and bits 64 to 127 */
 };
 
-/* What a listing answers. */
-struct dohvrin_listing {
-    uint64_t refusal; /* the number of the question that said no, or 0 */
-    uint64_t events;  /* how many events are in the event table */
-    uint64_t paths;   /* how many paths are in the path table */
-};
-
-/* What a search or a quote answers. */
+/*
+  What collect, list, search, count and quote answer, and row_text takes: what a
+  row says beside its order and its counts. What a call does not tell is 0.
+*/
 struct dohvrin_row {
     uint64_t refusal;    /* the number of the question that said no, or 0 */
     uint64_t events;     /* how many events the row has: after a quote the table may have more */
-    uint64_t paths;      /* how many paths are in the path table */
-    uint64_t polynomial; /* the best polynomial */
-    uint64_t shared;     /* how many polynomials have its counts, it among them */
+    uint64_t paths;      /* how many paths are in the path table; of collect 0 */
+    uint64_t polynomial; /* the best polynomial, or the one given; of collect and list 0 */
+    uint64_t shared;     /* how many polynomials have its counts, it among them; 0 where it was
+                            compared with nobody: of collect, list and count */
 };
 
 /* Where the paths of one weight stand in a path table. */
@@ -312,7 +310,7 @@ uint64_t dohvrin_encode(struct dohvrin_order order, uint64_t low, uint64_t high,
 /*
   Collects the events of weight below d of the order's code, on walks of at
   most N steps, or on a terminated link those of the state 0 alone, on walks of
-  at most N+v steps; m does not matter. Accepted: value is their number; the
+  at most N+v steps; m does not matter. Accepted: events is their number; the
   table has them first, ordered by state, length and input number, its entries
   after them are 0, and the work area is 0 throughout. Refusal 13, there are
   more events than entries: table and work area are 0 throughout. Other
@@ -321,9 +319,8 @@ uint64_t dohvrin_encode(struct dohvrin_order order, uint64_t low, uint64_t high,
   does not matter. That the pointers have as many events and numbers as is
   said, and that table and work area do not overlap, cannot be checked.
 */
-struct dohvrin_answer dohvrin_collect(struct dohvrin_order order, struct dohvrin_event *events,
-                                      size_t event_entries, uint64_t *work,
-                                      size_t work_numbers);
+struct dohvrin_row dohvrin_collect(struct dohvrin_order order, struct dohvrin_event *events,
+                                   size_t event_entries, uint64_t *work, size_t work_numbers);
 
 /*
   Lists the paths of weight below d of the order's code, words of N bits, with
@@ -342,14 +339,14 @@ struct dohvrin_answer dohvrin_collect(struct dohvrin_order order, struct dohvrin
   entries and numbers as is said, and that none of the tables overlaps another,
   cannot be checked.
 */
-struct dohvrin_listing dohvrin_list(struct dohvrin_order order, struct dohvrin_event *events,
-                                    size_t event_entries, uint64_t *paths, size_t path_numbers,
-                                    uint64_t *plain, size_t plain_entries, uint64_t *work,
-                                    size_t work_numbers);
+struct dohvrin_row dohvrin_list(struct dohvrin_order order, struct dohvrin_event *events,
+                                size_t event_entries, uint64_t *paths, size_t path_numbers,
+                                uint64_t *plain, size_t plain_entries, uint64_t *work,
+                                size_t work_numbers);
 
 /*
   Finds the paths of one weight in a path table, by the counts of its paths of
-  each weight from 1: counts[w - 1] is that of weight w. Accepted: paths[start]
+  each weight from 1: counts[w - 1] is that of weight w. Accepted: table[start]
   is the first of their numbers, and there are `numbers` of them, 0 where no
   path has that weight. The only refusal is 10: the weight is 0 or above
   count_entries, or the paths of all weights up to it are more than the table
@@ -357,8 +354,8 @@ struct dohvrin_listing dohvrin_list(struct dohvrin_order order, struct dohvrin_e
   which is 10 as well. Table and counts are only read; that the pointers have
   as many numbers as is said cannot be checked.
 */
-struct dohvrin_part dohvrin_part(const uint64_t *paths, size_t path_numbers,
-                                 const uint64_t *counts, size_t count_entries, uint64_t weight);
+struct dohvrin_part dohvrin_part(const uint64_t *table, size_t table_numbers,
+                                 const uint64_t *counts, size_t count_entries, uint64_t w);
 
 /*
   Searches for the order's best check polynomial: of degree m, for words of N
@@ -408,47 +405,49 @@ struct dohvrin_row dohvrin_quote(struct dohvrin_order order, uint64_t bits,
 
 /*
   Counts the undetected paths of one polynomial of degree m, without a search.
-  Accepted: the answer says how many events and paths there are; tables and
-  plain counts are as dohvrin_search leaves them, and the undetected counts are
-  this polynomial's. Refusals are those of dohvrin_search, and leave the same,
-  with 11 (the polynomial) after 10.
+  Accepted: the answer says how many events and paths there are, and has this
+  polynomial; `shared` is 0, since it was compared with nobody. Tables and plain
+  counts are as dohvrin_search leaves them, and the undetected counts are this
+  polynomial's. Refusals are those of dohvrin_search, and leave the same, with
+  11 (the polynomial) after 10.
 */
-struct dohvrin_listing dohvrin_count(struct dohvrin_order order, uint64_t polynomial,
-                                     struct dohvrin_event *events, size_t event_entries,
-                                     uint64_t *paths, size_t path_numbers, uint64_t *plain,
-                                     size_t plain_entries, uint64_t *undetected,
-                                     size_t undetected_entries, uint64_t *work,
-                                     size_t work_numbers);
+struct dohvrin_row dohvrin_count(struct dohvrin_order order, uint64_t polynomial,
+                                 struct dohvrin_event *events, size_t event_entries,
+                                 uint64_t *paths, size_t path_numbers, uint64_t *plain,
+                                 size_t plain_entries, uint64_t *undetected,
+                                 size_t undetected_entries, uint64_t *work,
+                                 size_t work_numbers);
 
 /*
-  Writes the row of an order: ORDER with n, v, N, m, d and the generators in
-  octal, but not the version; EVENTS; PATHS; for each weight from 1 to d - 1 a
-  line A with the weight and both counts; CRC with the polynomial in
+  Writes what a call has answered, a row or a refusal. Where row.refusal is not
+  0 it is NO with that number, as dohvrin_refusal_text writes it, and of all
+  questions only 10 is asked, and only whether text_bytes is below DOHVRIN_TEXT.
+  Else it is the row of the order: ORDER with n, v, N, m, d and the generators
+  in octal, but not the version; EVENTS; PATHS; for each weight from 1 to d - 1
+  a line A with the weight and both counts; CRC with the polynomial in
   hexadecimal and how many share its counts. Accepted: value is the number of
   its bytes, which the text begins with; each line ends with a line feed, and
   the bytes after the last are 0. Nothing is computed, and the row is printed
-  as it is told, for an order that a call has accepted before: of all questions
-  only 2, 3, 7, and 10 (plain_entries or undetected_entries is below d - 1, or
-  size is below DOHVRIN_TEXT) are asked, and their refusals leave the text as
-  it was. The other numbers may be any: where the polynomial was given, and
-  compared with no other, hosts tell 0 as `shared`, which no search does. The
-  counts are only read; that the pointers have as many as is said, and that the
-  text overlaps none of them, cannot be checked.
+  as it is told, for an order that a call has accepted before (after a quote,
+  that with N'): of all questions only 2, 3, 7, and 10 (plain_entries or
+  undetected_entries is below d - 1, or text_bytes is below DOHVRIN_TEXT) are
+  asked, and their refusals leave the text as it was. The other numbers may be
+  any. The counts are only read; that the pointers have as many as is said, and
+  that the text overlaps none of them, cannot be checked.
 */
-struct dohvrin_answer dohvrin_row_text(struct dohvrin_order order, uint64_t events,
-                                       uint64_t paths, uint64_t polynomial, uint64_t shared,
+struct dohvrin_answer dohvrin_row_text(struct dohvrin_order order, struct dohvrin_row row,
                                        const uint64_t *plain, size_t plain_entries,
                                        const uint64_t *undetected, size_t undetected_entries,
-                                       uint8_t *text, size_t size);
+                                       uint8_t *text, size_t text_bytes);
 
 /*
   Writes a refusal: NO with its number, which may be any. Accepted: value is
   the number of its bytes, which the text begins with, a line feed the last;
-  the bytes after them are 0. The only refusal is 10, size is below
-  DOHVRIN_TEXT, and leaves the text as it was. That the pointer has `size`
+  the bytes after them are 0. The only refusal is 10, text_bytes is below
+  DOHVRIN_TEXT, and leaves the text as it was. That the pointer has so many
   bytes cannot be checked.
 */
-struct dohvrin_answer dohvrin_refusal_text(uint64_t number, uint8_t *text, size_t size);
+struct dohvrin_answer dohvrin_refusal_text(uint64_t number, uint8_t *text, size_t text_bytes);
 
 /*
   Reads an order from a record of `size` bytes: the length of what follows it
@@ -480,16 +479,16 @@ struct dohvrin_tables {
 };
 
 /* dohvrin_collect in these tables. */
-static inline struct dohvrin_answer dohvrin_collect_in(struct dohvrin_order order,
-                                                       struct dohvrin_tables tables)
+static inline struct dohvrin_row dohvrin_collect_in(struct dohvrin_order order,
+                                                    struct dohvrin_tables tables)
 {
     return dohvrin_collect(order, tables.events, tables.event_entries, tables.work,
                            tables.work_numbers);
 }
 
 /* dohvrin_list in these tables. */
-static inline struct dohvrin_listing dohvrin_list_in(struct dohvrin_order order,
-                                                     struct dohvrin_tables tables)
+static inline struct dohvrin_row dohvrin_list_in(struct dohvrin_order order,
+                                                 struct dohvrin_tables tables)
 {
     return dohvrin_list(order, tables.events, tables.event_entries, tables.paths,
                         tables.path_numbers, tables.plain, tables.plain_entries, tables.work,
@@ -517,9 +516,8 @@ static inline struct dohvrin_row dohvrin_quote_in(struct dohvrin_order order, ui
 }
 
 /* dohvrin_count in these tables. */
-static inline struct dohvrin_listing dohvrin_count_in(struct dohvrin_order order,
-                                                      uint64_t polynomial,
-                                                      struct dohvrin_tables tables)
+static inline struct dohvrin_row dohvrin_count_in(struct dohvrin_order order, uint64_t polynomial,
+                                                  struct dohvrin_tables tables)
 {
     return dohvrin_count(order, polynomial, tables.events, tables.event_entries, tables.paths,
                          tables.path_numbers, tables.plain, tables.plain_entries,

@@ -3,7 +3,7 @@
 
 use crate::orders::Order;
 use crate::plain::{self, search::Best};
-use dohvrin::{Event, Found, Listed, Refusal, WORK};
+use dohvrin::{Event, Refusal, RowAnswer, WORK};
 
 pub struct Lent {
     order: Order,
@@ -65,7 +65,8 @@ impl Lent {
 
 pub fn library_collect(lent: &mut Lent) -> Option<usize> {
     let (o, events) = (&lent.order, &mut lent.events);
-    dohvrin::collect(o.given(), events, &mut lent.work).ok()
+    let row = dohvrin::collect(o.given(), events, &mut lent.work);
+    row.ok().map(|row| row.events as usize)
 }
 
 pub fn plain_collect(lent: &mut Lent) -> Option<usize> {
@@ -77,8 +78,8 @@ pub fn library_list(lent: &mut Lent) -> Option<usize> {
     let o = &lent.order;
     let (events, paths) = (&mut lent.events, &mut lent.numbers);
     let (plain, work) = (&mut lent.plain, &mut lent.work);
-    let listed = dohvrin::list(o.given(), events, paths, plain, work);
-    listed.ok().map(|Listed { paths, .. }| paths)
+    let row = dohvrin::list(o.given(), events, paths, plain, work);
+    row.ok().map(|row| row.paths as usize)
 }
 
 pub fn plain_list(lent: &mut Lent) -> Option<usize> {
@@ -104,11 +105,11 @@ pub fn library_quote(lent: &mut Lent, bits: u64) -> Option<Best> {
     best(dohvrin::quote(order, bits, lent.all()))
 }
 
-fn best(found: Result<Found, Refusal>) -> Option<Best> {
-    let found = found.ok()?;
+fn best(row: Result<RowAnswer, Refusal>) -> Option<Best> {
+    let row = row.ok()?;
     Some(Best {
-        polynomial: found.polynomial,
-        shared: found.shared,
+        polynomial: row.polynomial,
+        shared: row.shared,
     })
 }
 

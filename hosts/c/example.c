@@ -18,13 +18,11 @@
 _Static_assert(sizeof(struct dohvrin_answer) == 32, "four 64-bit numbers");
 _Static_assert(offsetof(struct dohvrin_answer, high) == 24, "without gaps");
 _Static_assert(sizeof(struct dohvrin_order) == 80, "ten 64-bit numbers");
-_Static_assert(offsetof(struct dohvrin_order, g4) == 72, "without gaps");
+_Static_assert(offsetof(struct dohvrin_order, generators) == 48, "without gaps");
 _Static_assert(sizeof(struct dohvrin_order_answer) == 88, "eleven 64-bit numbers");
 _Static_assert(offsetof(struct dohvrin_order_answer, order) == 8, "without gaps");
 _Static_assert(sizeof(struct dohvrin_event) == 40, "five 64-bit numbers");
 _Static_assert(offsetof(struct dohvrin_event, high) == 32, "without gaps");
-_Static_assert(sizeof(struct dohvrin_listing) == 24, "three 64-bit numbers");
-_Static_assert(offsetof(struct dohvrin_listing, paths) == 16, "without gaps");
 _Static_assert(sizeof(struct dohvrin_row) == 40, "five 64-bit numbers");
 _Static_assert(offsetof(struct dohvrin_row, shared) == 32, "without gaps");
 _Static_assert(sizeof(struct dohvrin_part) == 24, "three 64-bit numbers");
@@ -144,14 +142,14 @@ static void run_link(struct dohvrin_order order)
 /* The number of the order's events, and the first SHOWN of them. */
 static void print_events(struct dohvrin_order order)
 {
-    struct dohvrin_answer a = dohvrin_collect_in(order, tables);
+    struct dohvrin_row row = dohvrin_collect_in(order, tables);
 
-    if (a.refusal != 0) {
-        printf("  refused: %" PRIu64 "\n", a.refusal);
+    if (row.refusal != 0) {
+        printf("  refused: %" PRIu64 "\n", row.refusal);
         return;
     }
-    printf("  events   %" PRIu64 "\n", a.value);
-    for (size_t i = 0; i < a.value && i < SHOWN; i++) {
+    printf("  events   %" PRIu64 "\n", row.events);
+    for (size_t i = 0; i < row.events && i < SHOWN; i++) {
         const struct dohvrin_event *e = &events[i];
         printf("    state %" PRIu64 ", length %" PRIu64 ", weight %" PRIu64 ", input ",
                e->state, e->length, e->weight);
@@ -165,15 +163,15 @@ static void print_events(struct dohvrin_order order)
 */
 static void print_paths(struct dohvrin_order order)
 {
-    struct dohvrin_listing a = dohvrin_list_in(order, tables);
+    struct dohvrin_row row = dohvrin_list_in(order, tables);
     uint64_t heaviest = 0; /* of no path: refused by 10 */
     struct dohvrin_part part;
 
-    if (a.refusal != 0) {
-        printf("  refused: %" PRIu64 "\n", a.refusal);
+    if (row.refusal != 0) {
+        printf("  refused: %" PRIu64 "\n", row.refusal);
         return;
     }
-    printf("  paths    %" PRIu64 "\n  counts  ", a.paths);
+    printf("  paths    %" PRIu64 "\n  counts  ", row.paths);
     for (uint64_t w = 1; w < order.d; w++) {
         printf(" %" PRIu64, counts[w - 1]);
         if (counts[w - 1] != 0)
@@ -191,14 +189,13 @@ static void print_paths(struct dohvrin_order order)
 /* How many paths of each weight pass the check of that polynomial. */
 static void print_undetected(struct dohvrin_order order)
 {
-    uint64_t polynomial = polynomial_of(order);
-    struct dohvrin_listing a = dohvrin_count_in(order, polynomial, tables);
+    struct dohvrin_row row = dohvrin_count_in(order, polynomial_of(order), tables);
 
-    if (a.refusal != 0) {
-        printf("  refused: %" PRIu64 "\n", a.refusal);
+    if (row.refusal != 0) {
+        printf("  refused: %" PRIu64 "\n", row.refusal);
         return;
     }
-    printf("  unseen under 0x%" PRIX64 ":", polynomial);
+    printf("  unseen under 0x%" PRIX64 ":", row.polynomial);
     for (uint64_t w = 1; w < order.d; w++)
         printf(" %" PRIu64, undetected[w - 1]);
     putchar('\n');
@@ -207,14 +204,10 @@ static void print_undetected(struct dohvrin_order order)
 /* A row in these counts for this order, or the refusal. */
 static void print_row(struct dohvrin_order order, struct dohvrin_row row)
 {
-    struct dohvrin_answer written;
+    struct dohvrin_answer written =
+        dohvrin_row_text(order, row, counts, DOHVRIN_COUNTS, undetected, DOHVRIN_COUNTS,
+                         text, sizeof text);
 
-    if (row.refusal != 0)
-        written = dohvrin_refusal_text(row.refusal, text, sizeof text);
-    else
-        written = dohvrin_row_text(order, row.events, row.paths, row.polynomial, row.shared,
-                                   counts, DOHVRIN_COUNTS, undetected, DOHVRIN_COUNTS,
-                                   text, sizeof text);
     fwrite(text, 1, written.value, stdout);
     if (row.shared > 1)
         printf("  as good by these counts: %" PRIu64 " more\n", row.shared - 1);
@@ -262,9 +255,12 @@ static int run_record(const char *hex)
     }
     order = read.order;
     printf("%s order: n %" PRIu64 ", v %" PRIu64 ", N %" PRIu64 ", m %" PRIu64 ", d %" PRIu64
-           ", generators %" PRIo64 " %" PRIo64 " %" PRIo64 " %" PRIo64 "\n",
+           ", generators",
            order.version == DOHVRIN_TERMINATED ? "terminated" : "tail-biting",
-           order.n, order.v, order.bits, order.m, order.d, order.g1, order.g2, order.g3, order.g4);
+           order.n, order.v, order.bits, order.m, order.d);
+    for (size_t i = 0; i < 4; i++)
+        printf(" %" PRIo64, order.generators[i]);
+    putchar('\n');
     run_link(order);
     print_events(order);
     print_paths(order);

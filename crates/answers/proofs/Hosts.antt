@@ -3,9 +3,7 @@
 use mathlib.Core.Path.{_≡_, refl, sym, ap, ap₂, _∙_, subst}
 use Prim.Native.Nat.{ℕ, _+_, _*_, _^_, _<_}
 use lib.Pow.{high, low}
-use Rattle.order.specs.Answer.{Answer, accepted, refused, refusalNumber}
-use Rattle.order.specs.Order.{Order}
-use Rattle.order.specs.Answers.{readingOf}
+use Rattle.order.specs.Answer.{Answer, refusalNumber}
 use Rattle.crc.specs.Check.{Stripping, Divisibility}
 use Rattle.crc.specs.Answers.{appendedAs, strippedAs, testedAs}
 use Rattle.crc.specs.declared.Appended.{Appended}
@@ -19,23 +17,16 @@ use Rattle.code.specs.declared.Weighed.{Weighed}
 use Rattle.code.specs.declared.Weighed.the-variants as W
 use Rattle.code.specs.declared.Encoded.{Encoded}
 use Rattle.code.specs.declared.Encoded.the-variants as E
-use Rattle.collection.specs.Calls.{collectedAs}
-use Rattle.collection.specs.declared.Collected.{Collected}
-use Rattle.collection.specs.declared.Collected.the-variants as C
-use Rattle.listing.specs.Calls.{Listing, listedAs}
-use Rattle.listing.specs.declared.Listed.{Listed}
-use Rattle.listing.specs.declared.Listed.the-variants as Li
-use Rattle.search.specs.Calls.{Found, searchedAs}
-use Rattle.search.specs.declared.Searched.{Searched}
-use Rattle.search.specs.declared.Searched.the-variants as Q
+use Rattle.row.specs.declared.Row.{Row}
+use Rattle.row.specs.declared.Answered.{Answered}
+use Rattle.row.specs.Answered.{answeredAs}
 use Rattle.text.specs.Calls.{writtenAs}
 use Rattle.text.specs.declared.Written.{Written}
 use Rattle.text.specs.declared.Written.the-variants as X
 use Rattle.answers.specs.declared.HostAnswer.{HostAnswer}
-use Rattle.answers.specs.declared.SearchAnswer.{SearchAnswer}
-use Rattle.answers.specs.declared.ListAnswer.{ListAnswer}
-use Rattle.answers.specs.Answers.{refusalAnswer, numberAnswer, wordAnswer, told, toldWith, strippedAnswer, testedAnswer, numbered, pathAnswer, pathsAnswer, searchAnswer, rowAnswer, orderAnswer}
-use Rattle.answers.specs.Model.Cases.{word, ofAppended, ofStripped, ofTested, ofWeighed, ofEncoded, ofCollected, ofListed, ofSearched, ofReading, ofWritten}
+use Rattle.answers.specs.declared.RowAnswer.{RowAnswer}
+use Rattle.answers.specs.Answers.{refusalAnswer, numberAnswer, wordAnswer, told, toldWith, strippedAnswer, testedAnswer, numbered, rowAnswer, rowWith}
+use Rattle.answers.specs.Model.Cases.{word, ofAppended, ofStripped, ofTested, ofWeighed, ofEncoded, ofWritten}
 
 -- a word's halves are those of its number
 word-halves : (l h : ℕ) → l < 2 ^ 64 → word l h ≡ wordAnswer (h * 2 ^ 64 + l)
@@ -76,28 +67,11 @@ module _ {L : Type 0} (left : L) where
   unfolding numbered
   encode-answer a r x e ex = ap (λ (k : ℕ). (k, left)) (e ∙ encoded-number a) ∙ ap numbered ex
 
-  pub collect-answer : (a : Collected) (r : HostAnswer) (x : Answer ℕ × L) → r ≡ ofCollected a → (collectedAs a, left) ≡ x → (r, left) ≡ toldWith numberAnswer x
-  unfolding toldWith told refusalAnswer numberAnswer
-  collect-answer (C.Events n) r x e ex = ap (λ (s : HostAnswer). (s, left)) e ∙ ap (toldWith numberAnswer) ex
-  collect-answer (C.Refused k) r x e ex = ap (λ (s : HostAnswer). (s, left)) e ∙ ap (toldWith numberAnswer) ex
-
   pub text-answer : (a : Written) (r : HostAnswer) (x : Answer ℕ × L) → r ≡ ofWritten a → (writtenAs a, left) ≡ x → (r, left) ≡ toldWith numberAnswer x
   unfolding toldWith told refusalAnswer numberAnswer
   text-answer (X.Bytes n) r x e ex = ap (λ (s : HostAnswer). (s, left)) e ∙ ap (toldWith numberAnswer) ex
   text-answer (X.Refused k) r x e ex = ap (λ (s : HostAnswer). (s, left)) e ∙ ap (toldWith numberAnswer) ex
 
-  -- the listing, and the counts of one polynomial
-  pub list-answer : (a : Listed) (r : ListAnswer) (x : Answer Listing × L) → r ≡ ofListed a → (listedAs a, left) ≡ x → (r, left) ≡ pathsAnswer x
-  unfolding pathsAnswer pathAnswer
-  list-answer (Li.Paths n k) r x e ex = ap (λ (s : ListAnswer). (s, left)) e ∙ ap pathsAnswer ex
-  list-answer (Li.Refused k) r x e ex = ap (λ (s : ListAnswer). (s, left)) e ∙ ap pathsAnswer ex
-
-  pub search-answer : (a : Searched) (r : SearchAnswer) (x : Answer Found × L) → r ≡ ofSearched a → (searchedAs a, left) ≡ x → (r, left) ≡ rowAnswer x
-  unfolding rowAnswer searchAnswer
-  search-answer (Q.Found n k p s′) r x e ex = ap (λ (s : SearchAnswer). (s, left)) e ∙ ap rowAnswer ex
-  search-answer (Q.Refused k) r x e ex = ap (λ (s : SearchAnswer). (s, left)) e ∙ ap rowAnswer ex
-
-pub order-told : (x : Answer Order) → ofReading (readingOf x) ≡ orderAnswer x
-unfolding readingOf orderAnswer
-order-told (accepted o) = refl
-order-told (refused k) = refl
+  pub row-answer : (a : Answered) (r : RowAnswer) (x : Answer Row × L) → r ≡ rowAnswer (answeredAs a) → (answeredAs a, left) ≡ x → (r, left) ≡ rowWith x
+  unfolding rowWith
+  row-answer a r x e ex = ap (λ (s : RowAnswer). (s, left)) e ∙ ap rowWith ex

@@ -3,19 +3,15 @@
 use mathlib.Core.Bool.{cond}
 use mathlib.Core.List.{List}
 use Prim.Native.Nat.{ℕ, _-_, _*_, _/_, _%_, _^_}
-use Rattle.order.specs.Answer.{Answer, accepted, refused, refusalNumber}
-use Rattle.order.specs.Order.{Order, ofWeight}
-use Rattle.order.specs.Answers.{recordOf}
-use Rattle.order.specs.declared.record.OrderRecord.{OrderRecord}
+use Rattle.order.specs.Answer.{Answer, accepted, refused, refusalNumber, unless}
+use Rattle.order.specs.Order.{ofWeight}
+use Rattle.row.specs.declared.Row.{Row}
+use Rattle.row.specs.Answered.{row}
 use Rattle.crc.specs.Check.{Stripping, message, damaged, Divisibility, divisible, indivisible}
 use Rattle.paths.specs.Part.{pathsTo, partFits}
-use Rattle.listing.specs.Calls.{Listing}
-use Rattle.search.specs.Calls.{Found}
 use Rattle.answers.specs.declared.HostAnswer.{HostAnswer}
-use Rattle.answers.specs.declared.ListAnswer.{ListAnswer}
-use Rattle.answers.specs.declared.OrderAnswer.{OrderAnswer}
 use Rattle.answers.specs.declared.PartAnswer.{PartAnswer}
-use Rattle.answers.specs.declared.SearchAnswer.{SearchAnswer}
+use Rattle.answers.specs.declared.RowAnswer.{RowAnswer}
 
 -- a refusal alone; one number; one word, the low half first
 unfoldable pub refusalAnswer : ℕ → HostAnswer
@@ -50,31 +46,19 @@ testedAnswer indivisible = numberAnswer 0
 unfoldable pub numbered : {A L : Type 0} → Answer A × L → ℕ × L
 numbered (a, left) = (refusalNumber a, left)
 
--- the listing, and the counts of one polynomial: how many events and paths, and what is left
-unfoldable pub pathAnswer : Answer Listing → ListAnswer
-pathAnswer (accepted x) = record { refusal = 0; events = x .events; paths = x .paths }
-pathAnswer (refused k) = record { refusal = k; events = 0; paths = 0 }
+-- a call over lent tables: the numbers of its row, or the refusal and zeros; and the tables that it leaves
+unfoldable pub rowAnswer : Answer Row → RowAnswer
+rowAnswer (accepted r) = record { refusal = 0; row = r }
+rowAnswer (refused k) = record { refusal = k; row = row 0 0 0 0 }
 
-unfoldable pub pathsAnswer : {L : Type 0} → Answer Listing × L → ListAnswer × L
-pathsAnswer (a, left) = (pathAnswer a, left)
+unfoldable pub rowWith : {L : Type 0} → Answer Row × L → RowAnswer × L
+rowWith (a, left) = (rowAnswer a, left)
 
--- the search: how many events and paths, the best polynomial, and how many share its counts; and the tables that it leaves
-unfoldable pub searchAnswer : Answer Found → SearchAnswer
-searchAnswer (accepted x) = record { refusal = 0; events = x .events; paths = x .paths; polynomial = x .polynomial; shared = x .shared }
-searchAnswer (refused k) = record { refusal = k; events = 0; paths = 0; polynomial = 0; shared = 0 }
-
-unfoldable pub rowAnswer : {L : Type 0} → Answer Found × L → SearchAnswer × L
-rowAnswer (a, left) = (searchAnswer a, left)
+-- the answer that a host hands back for its text
+unfoldable pub answerIn : RowAnswer → Answer Row
+answerIn r = unless (r .refusal) (accepted (r .row))
 
 -- the part of one weight: its first number in the caller's table, and how many numbers it has, two a path
 unfoldable pub partAnswer : List ℕ → ℕ → List ℕ → PartAnswer
 partAnswer counts w table =
     cond (partFits counts w table) record { refusal = 0; start = 2 * pathsTo counts (w - 1); numbers = 2 * ofWeight w counts } record { refusal = 10; start = 0; numbers = 0 }
-
--- the order of a record, as the struct that the calls take
-unfoldable pub noOrder : OrderRecord
-noOrder = record { version = 0; n = 0; v = 0; bits = 0; m = 0; d = 0; g1 = 0; g2 = 0; g3 = 0; g4 = 0 }
-
-unfoldable pub orderAnswer : Answer Order → OrderAnswer
-orderAnswer (accepted o) = record { refusal = 0; order = recordOf o }
-orderAnswer (refused k) = record { refusal = k; order = noOrder }

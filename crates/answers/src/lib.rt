@@ -2,17 +2,16 @@
 // What is `pub` here is for the crate above; docs/DECISIONS.md lists it as internal.
 ghost use mathlib.Core.Path.{_≡_};
 ghost use Prim.Native.Nat.{_^_, _<_};
-ghost use Rattle.answers.specs.Model.Cases.{ofAppended, ofStripped, ofTested, ofWeighed, ofEncoded, ofCollected, ofListed, ofSearched, ofReading, ofWritten};
+ghost use Rattle.row.specs.Answered.{answeredAs};
+ghost use Rattle.answers.specs.Answers.{rowAnswer, answerIn};
+ghost use Rattle.answers.specs.Model.Cases.{ofAppended, ofStripped, ofTested, ofWeighed, ofEncoded, ofWritten};
 use code::Encoded;
 use code::Weighed;
-use collection::Collected;
 use crc::Appended;
 use crc::Stripped;
 use crc::Tested;
-use listing::Listed;
-use order::record::OrderRecord;
-use order::record::Reading;
-use search::Searched;
+use row::Answered;
+use row::Row;
 use text::Written;
 
 // What a call answers: the number of the refusal or 0, one number, and one word in two halves. What a call does not use is 0.
@@ -24,29 +23,11 @@ pub struct HostAnswer {
     pub high: u64,
 }
 
-// An order as a record gives it, and as the calls take it; or the number of the refusal and zeros.
+// What a call over lent tables answers: the number of the refusal and zeros, or 0 and the numbers of the row.
 #[repr(C)]
-pub struct OrderAnswer {
+pub struct RowAnswer {
     pub refusal: u64,
-    pub order: OrderRecord,
-}
-
-// How many events and paths were listed, or the number of the refusal and zeros.
-#[repr(C)]
-pub struct ListAnswer {
-    pub refusal: u64,
-    pub events: u64,
-    pub paths: u64,
-}
-
-// How many events and paths were listed, the best polynomial, and how many share its counts; or the number of the refusal and zeros.
-#[repr(C)]
-pub struct SearchAnswer {
-    pub refusal: u64,
-    pub events: u64,
-    pub paths: u64,
-    pub polynomial: u64,
-    pub shared: u64,
+    pub row: Row,
 }
 
 // Where the words of one weight stand in the caller's path table: their first number, and how many numbers; or refusal 10 and zeros.
@@ -128,66 +109,38 @@ pub fn encoded(a: Encoded) -> u64
     }
 }
 
-// What the collection answers hosts: the number of events, or the refusal.
-pub fn collected(a: Collected) -> HostAnswer
-    ensures { λ r. ⌜ r ≡ ofCollected a ⌝ }
+fn row_answer(refusal: u64, row: Row) -> RowAnswer
+    ensures { λ r. ⌜ r ≡ record { refusal = refusal; row = row } ⌝ }
+{
+    RowAnswer { refusal, row }
+}
+
+pub fn answered(a: Answered) -> RowAnswer
+    ensures { λ r. ⌜ r ≡ rowAnswer (answeredAs a) ⌝ }
 {
     match a {
-        Collected::Events(n) => number_answer(0, n),
-        Collected::Refused(k) => number_answer(k, 0),
-    }
-}
-
-fn list_answer(refusal: u64, events: u64, paths: u64) -> ListAnswer
-    ensures { λ r. ⌜ r ≡ record { refusal = refusal; events = events; paths = paths } ⌝ }
-{
-    ListAnswer {
-        refusal,
-        events,
-        paths,
-    }
-}
-
-pub fn listed(a: Listed) -> ListAnswer
-    ensures { λ r. ⌜ r ≡ ofListed a ⌝ }
-{
-    match a {
-        Listed::Paths(events, paths) => list_answer(0, events, paths),
-        Listed::Refused(k) => list_answer(k, 0, 0),
-    }
-}
-
-fn search_answer(
-    refusal: u64,
-    events: u64,
-    paths: u64,
-    polynomial: u64,
-    shared: u64,
-) -> SearchAnswer
-    ensures { λ r. ⌜ r ≡ record { refusal = refusal; events = events; paths = paths; polynomial = polynomial; shared = shared } ⌝ }
-{
-    SearchAnswer {
-        refusal,
-        events,
-        paths,
-        polynomial,
-        shared,
-    }
-}
-
-pub fn searched(a: Searched) -> SearchAnswer
-    ensures { λ r. ⌜ r ≡ ofSearched a ⌝ }
-{
-    match a {
-        Searched::Found(events, paths, polynomial, shared) => search_answer(
-            0,
-            events,
-            paths,
-            polynomial,
-            shared,
+        Answered::Row(row) => row_answer(0, row),
+        Answered::Refused(k) => row_answer(
+            k,
+            Row {
+                events: 0,
+                paths: 0,
+                polynomial: 0,
+                shared: 0,
+            },
         ),
-        Searched::Refused(k) => search_answer(k, 0, 0, 0, 0),
     }
+}
+
+// The answer that a host hands back.
+pub fn answer_of(a: RowAnswer) -> Answered
+    ensures { λ r. ⌜ answeredAs r ≡ answerIn a ⌝ }
+{
+    if a.refusal != 0 {
+        return Answered::Refused(a.refusal);
+    }
+    let row = a.row;
+    Answered::Row(row)
 }
 
 pub fn part_answer(refusal: u64, start: u64, numbers: u64) -> PartAnswer
@@ -200,40 +153,11 @@ pub fn part_answer(refusal: u64, start: u64, numbers: u64) -> PartAnswer
     }
 }
 
-fn order_answer(refusal: u64, order: OrderRecord) -> OrderAnswer
-    ensures { λ r. ⌜ r ≡ record { refusal = refusal; order = order } ⌝ }
-{
-    OrderAnswer { refusal, order }
-}
-
 pub fn written(a: Written) -> HostAnswer
     ensures { λ r. ⌜ r ≡ ofWritten a ⌝ }
 {
     match a {
         Written::Bytes(n) => number_answer(0, n),
         Written::Refused(k) => number_answer(k, 0),
-    }
-}
-
-pub fn reading(a: Reading) -> OrderAnswer
-    ensures { λ r. ⌜ r ≡ ofReading a ⌝ }
-{
-    match a {
-        Reading::Order(o) => order_answer(0, o),
-        Reading::Refused(k) => order_answer(
-            k,
-            OrderRecord {
-                version: 0,
-                n: 0,
-                v: 0,
-                bits: 0,
-                m: 0,
-                d: 0,
-                g1: 0,
-                g2: 0,
-                g3: 0,
-                g4: 0,
-            },
-        ),
     }
 }

@@ -6,6 +6,7 @@ use mathlib.Core.Path.{_≡_, refl}
 use mathlib.Core.Bool.{Bool, true, false, not, cond, _&&_, _||_}
 use mathlib.Core.Logic.{_⊎_, inl, inr, _≢_}
 use mathlib.Core.List.{List}
+use lib.Arith.{lt-of-le-ne}
 use lib.Dec.{T, leb, ltb, eqb, leb→le, T-not}
 use Rattle.lists.proofs.Choices.{eqb-passes}
 use Rattle.lists.proofs.Tests.{T-and}
@@ -109,7 +110,4 @@ module _ (work : List ℕ) (begun : Chain) (e : Event) where
       let f = decided-fits n₀ .0 in
       let n : e .length ≢ begun .steps =
       λ q. T-not whole (not-whole (decided-continued n₀ n₁ .1 .0)) (eqb-passes (e .length) (begun .steps) q) in
-      less (e .length) (begun .steps) f n
-    where
-      less : (x y : ℕ) → x ≤ y → x ≢ y → x < y
-      less x y g n = omega arith
+      lt-of-le-ne f n

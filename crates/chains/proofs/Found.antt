@@ -9,6 +9,7 @@ use mathlib.Core.Path.{_≡_, refl, sym, ap, _∙_, subst}
 use mathlib.Core.Bool.{not, cond}
 use mathlib.Core.Logic.{⊎-elim, _≢_}
 use mathlib.Core.List.{List, [], _∷_, _++_, flatMap, map, List·Memᴰ, Memᴰ·of-map}
+use lib.Arith.{lt-of-le-ne}
 use lib.Dec.{T, leb, eqb, leb→le, ltb→lt, eqb→eq, not-T, nleb→lt}
 use lib.Pow.{split}
 use lib.ListN.{length, getD}
@@ -234,11 +235,7 @@ module _ {table : List Event} {work : List ℕ} (joins : Joins table work) where
 
     -- some step is left
     steps-left : T (fits work begun e) → T (not (whole work begun e)) → e .length < begun .steps
-    steps-left f n =
-        less (e .length) (begun .steps) (fit-parts work begun e f .0) (eqb-differs (e .length) (begun .steps) n)
-      where
-        less : (x y : ℕ) → x ≤ y → x ≢ y → x < y
-        less x y g n = omega arith
+    steps-left f n = lt-of-le-ne (fit-parts work begun e f .0) (eqb-differs (e .length) (begun .steps) n)
 
     -- the weight that is left is not used up by anything
     by-light : T (fits work begun e) → T (not (whole work begun e)) → T (spare work begun e) → T (not (spent work begun e)) → foundBy table work begun e ≡ []

@@ -4,21 +4,18 @@
 use Prim.Native.Nat.{ℕ, _-_, _≤_, _<_}
 use native.Mathlib.Omega.{arith}
 use mathlib.Core.Path.{_≡_, refl, sym, _∙_, ap, subst}
-use mathlib.Core.Bool.{true}
 use mathlib.Core.Logic.{_↔_, _≢_, ⊎-elim}
-use mathlib.Core.List.{List, [], _∷_, List·Memᴰ, List·Memᴰ·not-nil, List·Memᴰ·cases-cons, List·Memᴰ·eq-of-singleton}
+use mathlib.Core.List.{List, [], _∷_, List·Memᴰ, List·Memᴰ·not-nil, List·Memᴰ·cases-cons}
 use lib.Dec.{T, not-T}
 use lib.ListN.{length}
-use Rattle.lists.proofs.Tests.{true-of-T}
-use Rattle.lists.proofs.Filters.{filter-one}
 use Rattle.lists.proofs.Sorted.{Sorted, sorted-unique}
 use Rattle.order.specs.Order.{Order}
 use Rattle.undetected.specs.Undetected.{undetectedCounts}
-use Rattle.choice.specs.Choice.{candidates, fewer, unbettered, best, firstOf, Choice, choiceAmong, choice}
+use Rattle.choice.specs.Choice.{candidates, fewer, best, firstOf, Choice, choiceAmong, choice}
 use Rattle.choice.specs.Best.{IsCandidate, LowestLess, FirstBest, BestOf}
-use Rattle.choice.proofs.Fewer.{lowest-of-fewer, fewer-of-lowest, fewer-irreflexive, fewer-asymmetric, not-itself}
+use Rattle.choice.proofs.Fewer.{lowest-of-fewer, fewer-of-lowest, fewer-irreflexive, fewer-asymmetric}
 use Rattle.choice.proofs.Candidates.{mem-candidates, candidates-sorted, some-candidate}
-use Rattle.choice.proofs.Best.{firstOf-member, unbettered⇔unbeaten, of-best, in-best, best-sorted, best-nonempty, every-other-worse, best-share, best-of-same}
+use Rattle.choice.proofs.Best.{firstOf-member, of-best, in-best, best-sorted, best-nonempty, every-other-worse, best-share, best-of-same}
 use Rattle.choice.proofs.ByWeight.{length-undetectedCounts}
 
 -- the first of a list in order is the least
@@ -104,18 +101,6 @@ module _ (IsOne : ℕ → Type 0) (n : ℕ) (counts : ℕ → List ℕ) (sized :
     λ h. retold (h .0) (h .1) (first-best is-one),
     λ named. (sym (named-first p shared named), sym (named-shared p shared named)),
   )
-
--- ---- of one candidate alone
-
-alone-left : (counts : ℕ → List ℕ) (p : ℕ) → best counts (p ∷ []) ≡ p ∷ []
-unfolding best
-alone-left counts p =
-    let itself = unbettered⇔unbeaten counts (p ∷ []) p .1 (λ q m. rw (List·Memᴰ·eq-of-singleton m) (not-itself (counts p))) in
-    filter-one (unbettered counts (p ∷ [])) p true (true-of-T _ itself)
-
-pub alone-chosen : (counts : ℕ → List ℕ) (p : ℕ) → choiceAmong counts (p ∷ []) ≡ record { polynomial = p; shared = 1; undetected = counts p }
-unfolding choiceAmong firstOf
-alone-chosen counts p = ap (λ (l : List ℕ). record { polynomial = firstOf l; shared = length l; undetected = counts (firstOf l) }) (alone-left counts p)
 
 -- ---- of an order
 

@@ -13,12 +13,11 @@ use Rattle.lists.specs.Lists.{padded}
 use Rattle.lists.proofs.Tests.{true-of-T}
 use Rattle.lists.proofs.Member.{of-all}
 use Rattle.order.specs.Questions.{firstNo, inRange, room, below}
-use Rattle.order.specs.Order.{Order, orderQuestions}
+use Rattle.order.specs.Order.{Order, theCode, orderQuestions}
 use Rattle.order.specs.Answer.{Answer, accepted, refused}
-use Rattle.order.specs.Model.Accepted.{AcceptedCode, AcceptedAs}
-use Rattle.order.specs.declared.questions.Takes.the-variants as T
+use Rattle.order.specs.Model.Accepted.{AcceptedCode}
 use Rattle.order.proofs.Answers.{below-of-range}
-use Rattle.order.proofs.Asked.{numbered-order, accepted-order}
+use Rattle.order.proofs.Asked.{numbered-order, accepted-code}
 use Rattle.order.proofs.FirstNo.{firstNo-none, firstNo-yes, firstNo-no, refused-first, refused-later, is-refused, is-answered, leaves-refused, leaves-answered}
 use Rattle.code.specs.Links.{stepsOf}
 use Rattle.code.specs.Weight.{weight, codeword}
@@ -32,22 +31,21 @@ fit-of-code o acc g m =
     let v : ℕ = o .v in
     subst (λ (k : ℕ). g < 2 ^ k) (add-one v) (below-of-range v g (true-of-T (inRange v g) (of-all (inRange v) (o .generators) (subst T (sym (acc .in-range)) tt) g m)))
 
-module _ (o : Order) (r : ℕ) (e : r ≡ firstNo (orderQuestions T.Code o)) where
-  pub accepted-code : r ≡ 0 → AcceptedCode o
-  unfolding AcceptedAs
-  accepted-code z = accepted-order T.Code o (sym e ∙ z)
+module _ (o : Order) (r : ℕ) (e : r ≡ firstNo (orderQuestions theCode o)) where
+  pub code-accepted : r ≡ 0 → AcceptedCode o
+  code-accepted z = accepted-code o (sym e ∙ z)
 
   -- ---- the weight of a word
 
   module _ (u : ℕ) where
     pub weigh-refused-early : (r ≡ 0 → ⊥) → refused r ≡ weighCall o u
     unfolding weighCall weighQuestions
-    weigh-refused-early n = is-refused _ r _ (refused-first (orderQuestions T.Code o) (below (o .N) u ∷ []) r (numbered-order T.Code o) e n) n
+    weigh-refused-early n = is-refused _ r _ (refused-first (orderQuestions theCode o) (below (o .N) u ∷ []) r (numbered-order theCode o) e n) n
 
     module _ (z : r ≡ 0) where
       later-weigh : (x : ℕ) → x ≡ firstNo (below (o .N) u ∷ []) → x ≡ firstNo (weighQuestions o u)
       unfolding weighQuestions
-      later-weigh x ex = refused-later (orderQuestions T.Code o) (below (o .N) u ∷ []) r x (numbered-order T.Code o) e z ex
+      later-weigh x ex = refused-later (orderQuestions theCode o) (below (o .N) u ∷ []) r x (numbered-order theCode o) e z ex
 
       pub weigh-refused-late : ltb u (2 ^ o .N) ≡ false → refused 12 ≡ weighCall o u
       unfolding weighCall
@@ -69,12 +67,12 @@ module _ (o : Order) (r : ℕ) (e : r ≡ firstNo (orderQuestions T.Code o)) whe
     pub encode-refused-early : (r ≡ 0 → ⊥) → _≡_ {A = Outcome} (refused r, out) (encodeCall o u out)
     unfolding encodeCall encodeQuestions
     encode-refused-early n =
-        leaves-refused out _ r _ (refused-first (orderQuestions T.Code o) (room needed (length out) ∷ below (o .N) u ∷ []) r (numbered-order T.Code o) e n) n
+        leaves-refused out _ r _ (refused-first (orderQuestions theCode o) (room needed (length out) ∷ below (o .N) u ∷ []) r (numbered-order theCode o) e n) n
 
     module _ (z : r ≡ 0) where
       later-encode : (x : ℕ) → x ≡ firstNo (room needed (length out) ∷ below (o .N) u ∷ []) → x ≡ firstNo (encodeQuestions o u (length out))
       unfolding encodeQuestions
-      later-encode x ex = refused-later (orderQuestions T.Code o) (room needed (length out) ∷ below (o .N) u ∷ []) r x (numbered-order T.Code o) e z ex
+      later-encode x ex = refused-later (orderQuestions theCode o) (room needed (length out) ∷ below (o .N) u ∷ []) r x (numbered-order theCode o) e z ex
 
       pub encode-no-room : length out < needed → _≡_ {A = Outcome} (refused 10, out) (encodeCall o u out)
       unfolding encodeCall

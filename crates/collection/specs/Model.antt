@@ -1,1 +1,2 @@
 pub mod Backward
+pub mod Gathered

@@ -3,14 +3,14 @@
 ghost use mathlib.Core.Path.{_≡_};
 ghost use Prim.Native.Nat.{_+_, _*_, _/_, _^_, _<_, _≤_};
 ghost use lib.ListN.{length, set};
-ghost use Rattle.order.specs.Questions.{firstNo, workSize};
+ghost use Rattle.order.specs.Questions.{workSize};
 ghost use Rattle.order.specs.Answers.{orderIn};
 ghost use Rattle.order.specs.Model.Accepted.{AcceptedCode, Accepted};
 ghost use Rattle.code.specs.Links.{stepsOf};
 ghost use Rattle.code.specs.Model.Steps.{mostSteps};
 ghost use Rattle.needed.specs.Model.Tables.{Tables};
 ghost use Rattle.collection.specs.Model.Backward.{goesOn, earlier, finished, found, first, appends, decided, waysOn, lastOf, decidedLast, Walkable, Back, TwoBack, Descent};
-ghost use Rattle.collection.specs.Calls.{collectQuestions, collectedAs, eventTables, collected, collectCall};
+ghost use Rattle.collection.specs.Model.Gathered.{Gathered};
 use code::link::steps_of;
 use events::Event;
 use events::clear_events;
@@ -24,16 +24,7 @@ use needed::tables::LENGTH_AT;
 use needed::tables::THRESHOLD_AT;
 use needed::tables::need_at;
 use needed::tables::step_at;
-use order::questions::Takes;
-use order::questions::WORK_SIZE;
 use order::record::OrderRecord;
-use order::record::ask_order;
-
-// How many events were listed, or the number of the question that says no.
-pub enum Collected {
-    Events(u64),
-    Refused(u64),
-}
 
 // ---- the walk backwards
 
@@ -177,38 +168,12 @@ fn first_node(steps: u64, k: u64) -> Node
 
 // ---- what a call asks and answers
 
-// Questions 2, 3, 4, 5, 7, 8, 9, 16 and 10: the number of the first that says no, or 0.
-fn ask(order: OrderRecord, size: usize) -> u64
-    ensures { λ r. ⌜ r ≡ firstNo (collectQuestions (orderIn order) size) ⌝ }
-{
-    let why = ask_order(Takes::Threshold, order);
-    if why != 0 {
-        return why;
-    }
-    if size < WORK_SIZE {
-        return 10;
-    }
-    0
-}
-
 // The node that turn k of the order begins with.
 fn node_for(order: OrderRecord, k: u64) -> Node
     requires { ⌜ AcceptedCode (orderIn order) ⌝ }
     ensures { λ r. ⌜ r ≡ first (stepsOf (orderIn order)) k ⌝ }
 {
     first_node(steps_of(order), k)
-}
-
-fn refuse(k: u64) -> Collected
-    ensures { λ r. ⌜ r ≡ Collected.Refused k ⌝ }
-{
-    Collected::Refused(k)
-}
-
-fn answer(n: usize) -> Collected
-    ensures { λ r. ⌜ r ≡ Collected.Events n ⌝ }
-{
-    Collected::Events(n as u64)
 }
 
 // ---- the event table
@@ -254,10 +219,11 @@ fn descend(work: &[u64], table: &mut [Event], at: usize, node: Node) -> usize
     next
 }
 
-// The collection for an accepted order: the table has the events first and zero records after them, or all is zero and 13 is told.
-pub fn gather(order: OrderRecord, events: &mut [Event], work: &mut [u64]) -> Collected
+// The collection for an accepted order: how many events there are, and the table has them first and zero records after them; or a number above the entries
+// of the table, and then nothing is said of the table. The work area ends as zeros.
+pub fn gather(order: OrderRecord, events: &mut [Event], work: &mut [u64]) -> usize
     requires { ⌜ Accepted (orderIn order) × (workSize ≤ length (now work)) ⌝ }
-    ensures { λ r. ⌜ (collectedAs r, eventTables (now (events .exit)) (now (work .exit))) ≡ collected (orderIn order) (eventTables (now (events .entry)) (now (work .entry))) ⌝ }
+    ensures { λ r. ⌜ Gathered (orderIn order) (now (events .entry)) (now (events .exit)) (now (work .entry)) (now (work .exit)) r ⌝ }
 {
     clear_events(events);
     prepare_for(order, work);
@@ -271,21 +237,5 @@ pub fn gather(order: OrderRecord, events: &mut [Event], work: &mut [u64]) -> Col
         k += 1;
     }
     clear_words(work);
-    if events.len() < at {
-        clear_events(events);
-        return refuse(13);
-    }
-    answer(at)
-}
-
-// The events of weight below d, by state, length and input, of the order's link, none longer than a word. The table has them first and zero records
-// after them, and the work area ends as zeros. Refused with 13, table and work area are all zeros; refused with an earlier number, nothing is changed.
-pub fn collect(order: OrderRecord, events: &mut [Event], work: &mut [u64]) -> Collected
-    ensures { λ r. ⌜ (collectedAs r, eventTables (now (events .exit)) (now (work .exit))) ≡ collectCall (orderIn order) (eventTables (now (events .entry)) (now (work .entry))) ⌝ }
-{
-    let why = ask(order, work.len());
-    if why != 0 {
-        return refuse(why);
-    }
-    gather(order, events, work)
+    at
 }

@@ -4,7 +4,7 @@
 use mathlib.Core.List.{List, [], _∷_, _++_}
 use Prim.Native.Nat.{ℕ, zero, suc, _-_, _*_, _/_, _^_}
 use Rattle.poly.specs.Poly.{_⊕_, remainder}
-use Rattle.order.specs.Questions.{Question, firstNo, wordLength, checkDegree, checkPolynomial, below}
+use Rattle.order.specs.Questions.{Question, firstNo, longestWord, wordLength, checkDegree, checkPolynomial, below}
 use Rattle.order.specs.Answer.{Answer, accepted, unless}
 
 -- x^m f plus the remainder of x^m f
@@ -38,7 +38,7 @@ test m p u = tested (remainder m p u)
 
 -- questions 5, 6 and 11
 unfoldable pub polynomialQuestions : ℕ → ℕ → ℕ → List Question
-polynomialQuestions N m p = wordLength 1 N ∷ checkDegree N m ∷ checkPolynomial m p ∷ []
+polynomialQuestions N m p = wordLength 1 longestWord N ∷ checkDegree N m ∷ checkPolynomial m p ∷ []
 
 -- and 12: a word or message of k bits
 unfoldable pub wordQuestions : ℕ → ℕ → ℕ → ℕ → ℕ → List Question

@@ -4,6 +4,7 @@ ghost use Rattle.poly.specs.Word.{number};
 ghost use Rattle.order.specs.Questions.{firstNo};
 ghost use Rattle.crc.specs.Check.{polynomialQuestions, appendCall, stripCall, testCall};
 ghost use Rattle.crc.specs.Answers.{appendedAs, strippedAs, testedAs};
+use order::questions::LONGEST_WORD;
 use order::questions::degree_fits;
 use order::questions::from_to;
 use order::questions::is_check_polynomial;
@@ -36,7 +37,7 @@ pub enum Tested {
 fn ask_polynomial(bits: u64, m: u64, polynomial: u64) -> u64
     ensures { λ r. ⌜ r ≡ firstNo (polynomialQuestions bits m polynomial) ⌝ }
 {
-    if !from_to(1, 128, bits) {
+    if !from_to(1, LONGEST_WORD, bits) {
         return 5;
     }
     if !degree_fits(bits, m) {

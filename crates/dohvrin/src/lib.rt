@@ -2,46 +2,42 @@
 ghost use mathlib.Core.Path.{_≡_};
 ghost use Prim.Native.Nat.{_+_, _*_, _^_};
 ghost use Rattle.order.specs.Order.{read};
-ghost use Rattle.order.specs.Answers.{orderIn};
+ghost use Rattle.order.specs.Answers.{orderIn, readingOf};
 ghost use Rattle.text.specs.Calls.{rowCall, refusalCall};
 ghost use Rattle.crc.specs.Check.{appendCall, stripCall, testCall};
 ghost use Rattle.code.specs.Calls.{weighCall, encodeCall};
-ghost use Rattle.collection.specs.Calls.{eventTables, collectCall};
-ghost use Rattle.listing.specs.Calls.{pathTables, listCall};
-ghost use Rattle.search.specs.Calls.{searchTables, searchCall, countCall};
+ghost use Rattle.jobs.specs.Jobs.{searchTables};
+ghost use Rattle.search.specs.Calls.{eventTables, pathTables, collectCall, listCall, searchCall, countCall};
 ghost use Rattle.quote.specs.Calls.{quoteCall};
-ghost use Rattle.answers.specs.Answers.{numberAnswer, wordAnswer, told, toldWith, strippedAnswer, testedAnswer, numbered, pathsAnswer, rowAnswer, partAnswer, orderAnswer};
+ghost use Rattle.answers.specs.Answers.{numberAnswer, wordAnswer, told, toldWith, strippedAnswer, testedAnswer, numbered, rowWith, answerIn, partAnswer};
 use answers::HostAnswer;
-use answers::ListAnswer;
-use answers::OrderAnswer;
 use answers::PartAnswer;
-use answers::SearchAnswer;
+use answers::RowAnswer;
+use answers::answer_of;
+use answers::answered;
 use answers::appended;
-use answers::collected;
 use answers::encoded;
-use answers::listed;
 use answers::part_answer;
-use answers::reading;
-use answers::searched;
 use answers::stripped;
 use answers::tested;
 use answers::weighed;
 use answers::written;
 use code::encode;
 use code::weigh;
-use collection::collect;
 use crc::append;
 use crc::strip;
 use crc::test;
 use events::Event;
-use listing::list;
 use order::record::OrderRecord;
+use order::record::Reading;
 use order::record::read_order;
 use paths::part;
 use paths::paths_to;
 use poly::word::make;
 use quote::quote;
+use search::collect;
 use search::count;
+use search::list;
 use search::search;
 use text::write_refusal;
 use text::write_row;
@@ -110,18 +106,18 @@ pub extern "C" fn dohvrin_collect(
     order: OrderRecord,
     events: &mut [Event],
     work: &mut [u64],
-) -> HostAnswer
-    ensures { λ r. ⌜ (r, eventTables (now (events .exit)) (now (work .exit))) ≡ toldWith numberAnswer (collectCall (orderIn order) (eventTables (now (events .entry)) (now (work .entry)))) ⌝ }
+) -> RowAnswer
+    ensures { λ r. ⌜ (r, eventTables (now (events .exit)) (now (work .exit))) ≡ rowWith (collectCall (orderIn order) (eventTables (now (events .entry)) (now (work .entry)))) ⌝ }
 {
-    collected(collect(order, events, work))
+    answered(collect(order, events, work))
 }
 
 // The order of a record.
 #[no_mangle]
-pub extern "C" fn dohvrin_read_order(bytes: &[u8]) -> OrderAnswer
-    ensures { λ r. ⌜ r ≡ orderAnswer (read (now (bytes .entry))) ⌝ }
+pub extern "C" fn dohvrin_read_order(bytes: &[u8]) -> Reading
+    ensures { λ r. ⌜ r ≡ readingOf (read (now (bytes .entry))) ⌝ }
 {
-    reading(read_order(bytes))
+    read_order(bytes)
 }
 
 // The paths of an order's code, into the lent tables.
@@ -132,10 +128,10 @@ pub extern "C" fn dohvrin_list(
     paths: &mut [u64],
     plain: &mut [u64],
     work: &mut [u64],
-) -> ListAnswer
-    ensures { λ r. ⌜ (r, pathTables (now (events .exit)) (now (paths .exit)) (now (plain .exit)) (now (work .exit))) ≡ pathsAnswer (listCall (orderIn order) (pathTables (now (events .entry)) (now (paths .entry)) (now (plain .entry)) (now (work .entry)))) ⌝ }
+) -> RowAnswer
+    ensures { λ r. ⌜ (r, pathTables (now (events .exit)) (now (paths .exit)) (now (plain .exit)) (now (work .exit))) ≡ rowWith (listCall (orderIn order) (pathTables (now (events .entry)) (now (paths .entry)) (now (plain .entry)) (now (work .entry)))) ⌝ }
 {
-    listed(list(order, events, paths, plain, work))
+    answered(list(order, events, paths, plain, work))
 }
 
 // The best check polynomial of an order, and how many share its counts.
@@ -147,10 +143,10 @@ pub extern "C" fn dohvrin_search(
     plain: &mut [u64],
     undetected: &mut [u64],
     work: &mut [u64],
-) -> SearchAnswer
-    ensures { λ r. ⌜ (r, searchTables (now (events .exit)) (now (paths .exit)) (now (plain .exit)) (now (undetected .exit)) (now (work .exit))) ≡ rowAnswer (searchCall (orderIn order) (searchTables (now (events .entry)) (now (paths .entry)) (now (plain .entry)) (now (undetected .entry)) (now (work .entry)))) ⌝ }
+) -> RowAnswer
+    ensures { λ r. ⌜ (r, searchTables (now (events .exit)) (now (paths .exit)) (now (plain .exit)) (now (undetected .exit)) (now (work .exit))) ≡ rowWith (searchCall (orderIn order) (searchTables (now (events .entry)) (now (paths .entry)) (now (plain .entry)) (now (undetected .entry)) (now (work .entry)))) ⌝ }
 {
-    searched(search(order, events, paths, plain, undetected, work))
+    answered(search(order, events, paths, plain, undetected, work))
 }
 
 // The best check polynomial for words of `bits` bits, with the events of the order's own length.
@@ -163,10 +159,10 @@ pub extern "C" fn dohvrin_quote(
     plain: &mut [u64],
     undetected: &mut [u64],
     work: &mut [u64],
-) -> SearchAnswer
-    ensures { λ r. ⌜ (r, searchTables (now (events .exit)) (now (paths .exit)) (now (plain .exit)) (now (undetected .exit)) (now (work .exit))) ≡ rowAnswer (quoteCall (orderIn order) bits (searchTables (now (events .entry)) (now (paths .entry)) (now (plain .entry)) (now (undetected .entry)) (now (work .entry)))) ⌝ }
+) -> RowAnswer
+    ensures { λ r. ⌜ (r, searchTables (now (events .exit)) (now (paths .exit)) (now (plain .exit)) (now (undetected .exit)) (now (work .exit))) ≡ rowWith (quoteCall (orderIn order) bits (searchTables (now (events .entry)) (now (paths .entry)) (now (plain .entry)) (now (undetected .entry)) (now (work .entry)))) ⌝ }
 {
-    searched(quote(order, bits, events, paths, plain, undetected, work))
+    answered(quote(order, bits, events, paths, plain, undetected, work))
 }
 
 // The undetected counts of one polynomial.
@@ -179,10 +175,10 @@ pub extern "C" fn dohvrin_count(
     plain: &mut [u64],
     undetected: &mut [u64],
     work: &mut [u64],
-) -> ListAnswer
-    ensures { λ r. ⌜ (r, searchTables (now (events .exit)) (now (paths .exit)) (now (plain .exit)) (now (undetected .exit)) (now (work .exit))) ≡ pathsAnswer (countCall (orderIn order) polynomial (searchTables (now (events .entry)) (now (paths .entry)) (now (plain .entry)) (now (undetected .entry)) (now (work .entry)))) ⌝ }
+) -> RowAnswer
+    ensures { λ r. ⌜ (r, searchTables (now (events .exit)) (now (paths .exit)) (now (plain .exit)) (now (undetected .exit)) (now (work .exit))) ≡ rowWith (countCall (orderIn order) polynomial (searchTables (now (events .entry)) (now (paths .entry)) (now (plain .entry)) (now (undetected .entry)) (now (work .entry)))) ⌝ }
 {
-    listed(count(order, polynomial, events, paths, plain, undetected, work))
+    answered(count(order, polynomial, events, paths, plain, undetected, work))
 }
 
 // The words of one weight, from 1 on, in a path table.
@@ -199,30 +195,18 @@ pub extern "C" fn dohvrin_part(table: &[u64], counts: &[u64], w: u64) -> PartAns
     part_answer(0, 2 * before, words.len() as u64)
 }
 
-// The text of a row.
+// The text of what a call answered for an order: a row, or a refusal.
 #[no_mangle]
 pub extern "C" fn dohvrin_row_text(
     order: OrderRecord,
-    events: u64,
-    paths: u64,
-    polynomial: u64,
-    shared: u64,
+    row: RowAnswer,
     plain: &[u64],
     undetected: &[u64],
     text: &mut [u8],
 ) -> HostAnswer
-    ensures { λ r. ⌜ (r, now (text .exit)) ≡ toldWith numberAnswer (rowCall (orderIn order) events paths polynomial shared (now (plain .entry)) (now (undetected .entry)) (now (text .entry))) ⌝ }
+    ensures { λ r. ⌜ (r, now (text .exit)) ≡ toldWith numberAnswer (rowCall (orderIn order) (answerIn row) (now (plain .entry)) (now (undetected .entry)) (now (text .entry))) ⌝ }
 {
-    written(write_row(
-        order,
-        events,
-        paths,
-        polynomial,
-        shared,
-        plain,
-        undetected,
-        text,
-    ))
+    written(write_row(order, answer_of(row), plain, undetected, text))
 }
 
 // The text of a refusal.

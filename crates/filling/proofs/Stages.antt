@@ -77,7 +77,8 @@ module _ {o : Order} {np nc nw : ℕ} (b : Ready o np nc nw) where
       module _ (kept : length us′ ≡ nw) (w′ : ℕ) (ls″ ms″ : List ℕ) (ew : w′ ≡ laterWeight (x .w) (o .d) next (np / 2)) (el : ls″ ≡ settledPaths ls′ (x .at) next) (em : ms″ ≡ settledCounts (length ls′) (x .ms) (x .at) next (x .w)) where
         pub stands-next : Stands w′ next ls″ ms″ us′
         stands-next =
-            subst (λ (w : ℕ). Stands w next ls″ ms″ us′) (sym ew) (subst (λ (l : List ℕ). Stands (laterWeight (x .w) (o .d) next (np / 2)) next l ms″ us′) (sym el) (subst (λ (m : List ℕ). Stands (laterWeight (x .w) (o .d) next (np / 2)) next (settledPaths ls′ (x .at) next) m us′) (sym em)
+            subst (λ (w : ℕ). Stands w next ls″ ms″ us′) (sym ew)
+            (subst (λ (l : List ℕ). Stands (laterWeight (x .w) (o .d) next (np / 2)) next l ms″ us′) (sym el) (subst (λ (m : List ℕ). Stands (laterWeight (x .w) (o .d) next (np / 2)) next (settledPaths ls′ (x .at) next) m us′) (sym em)
             (S.standing-next o (b .ok) (b .table) (b .from) np nc nw (b .enough) (b .wide) (x .w) (x .at) (x .ls) (x .ms) (x .us) (x .stands) light states first begins us′ ls′ next left kept)))
 
     pub nearer : x .w < o .d → (w′ next : ℕ) → w′ ≡ laterWeight (x .w) (o .d) next (np / 2) → o .d - w′ < o .d - x .w

@@ -102,7 +102,13 @@ module _ (o : Order) (ok : Ordered o) (table : List Event) (from : TableFor o ta
         let d = s .delimits .few-states in
         let t = ok .light in
         let n = standing-near w at ps cs ws s in
-        record { indexed = s .delimits .indexed; few-states = omega arith; short-to-turn = λ n. subst (λ (x : ℕ). x ≤ 128) (sym (s .delimits .bits)) (turned-short o (ok .few) (λ q. n (begins .first-is ∙ q))); light = omega arith; near = subst (λ (x : ℕ). at ≤ x / 2 + 1) (sym (standing-sizes w at ps cs ws s .0)) n }
+        record {
+          indexed = s .delimits .indexed;
+          few-states = omega arith;
+          short-to-turn = λ n. subst (λ (x : ℕ). x ≤ 128) (sym (s .delimits .bits)) (turned-short o (ok .few) (λ q. n (begins .first-is ∙ q)));
+          light = omega arith;
+          near = subst (λ (x : ℕ). at ≤ x / 2 + 1) (sym (standing-sizes w at ps cs ws s .0)) n;
+        }
 
     module _ (states first : ℕ) (begins : Begins o states first) (ws′ ps′ : List ℕ) (next : ℕ) (left : _≡_ {A = List ℕ × (List ℕ × ℕ)} (ws′, (ps′, next)) (weightListed table first w states ws (ps, at))) where
       words : _≡_ {A = List ℕ × ℕ} (ps′, next) (puts (chainWords o w) (ps, at))
@@ -116,7 +122,8 @@ module _ (o : Order) (ok : Ordered o) (table : List Event) (from : TableFor o ta
 
       delimits-then : Delimits o c table ws′
       delimits-then =
-          subst (Delimits o c table) (sym (ap (λ (x : List ℕ × (List ℕ × ℕ)). x .0) left ∙ ap (λ (k : ℕ). afterStates table w k 0 ws) (begins .all-states))) (delimits-after o c table w (eventStates o) 0 ws (s .delimits) (whole (eventStates o) (eventStates c) (same-states (from .no-longer))))
+          subst (Delimits o c table) (sym (ap (λ (x : List ℕ × (List ℕ × ℕ)). x .0) left ∙ ap (λ (k : ℕ). afterStates table w k 0 ws) (begins .all-states)))
+          (delimits-after o c table w (eventStates o) 0 ws (s .delimits) (whole (eventStates o) (eventStates c) (same-states (from .no-longer))))
         where
           whole : (x y : ℕ) → x ≡ y → 0 + x ≤ y
           whole x y e = omega arith

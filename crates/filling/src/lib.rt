@@ -8,7 +8,7 @@ ghost use Rattle.code.specs.Links.{stepsOf, eventStates};
 ghost use Rattle.paths.specs.Model.Joining.{unbegunFirst};
 ghost use Rattle.bounds.specs.Model.Places.{areaSize};
 ghost use Rattle.bounds.specs.Model.Tables.{indexed};
-ghost use Rattle.filling.specs.Model.Filling.{settledPaths, settledCounts, laterWeight, Settles, ToFill, filling};
+ghost use Rattle.filling.specs.Model.Filling.{settledPaths, settledCounts, laterWeight, Settles, ToFill, Filled};
 use bounds::index_states;
 use chains::list_weight;
 use chains::survey;
@@ -81,9 +81,9 @@ fn later_weight(w: u64, d: u64, next: usize, room: usize) -> u64
     w + 1
 }
 
-// The path table and the plain counts filled from a collected event table, weight by weight, from 1 on, since no path weighs 0: how many paths there are,
-// or one more than the table takes, and then both are cleared. The work area ends as zeros. The table may have been collected for longer words: events
-// that do not fit are passed over.
+// The path table and the plain counts filled from a collected event table, weight by weight, from 1 on, since no path weighs 0: how many paths there are;
+// or a number above what the table takes, and then nothing is said of the two. The work area ends as zeros. The table may have been collected for longer
+// words: events that do not fit are passed over.
 pub fn fill(
     order: OrderRecord,
     events: &[Event],
@@ -93,7 +93,7 @@ pub fn fill(
     work: &mut [u64],
 ) -> usize
     requires { ⌜ ToFill (orderIn order) (now events) n (now plain) (now work) ⌝ }
-    ensures { λ r. ⌜ (r, (now (paths .exit), (now (plain .exit), now (work .exit)))) ≡ filling (orderIn order) (now (paths .entry)) (now (plain .entry)) (now (work .entry)) ⌝ }
+    ensures { λ r. ⌜ Filled (orderIn order) (now (paths .entry)) (now (paths .exit)) (now (plain .entry)) (now (plain .exit)) (now (work .entry)) (now (work .exit)) r ⌝ }
 {
     clear_words(paths);
     clear_words(plain);
@@ -113,10 +113,5 @@ pub fn fill(
         w = later;
     }
     clear_words(work);
-    if room < at {
-        clear_words(paths);
-        clear_words(plain);
-        return at;
-    }
     at
 }

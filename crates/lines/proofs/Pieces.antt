@@ -51,14 +51,18 @@ pub polynomial-line : (p s : ℕ) → polynomialLine p s ≡ (67 ∷ 82 ∷ 67 �
 unfolding polynomialLine line wCRC hexadecimal decimal spaced flatMap
 polynomial-line p s = ap (λ (l : List ℕ). 67 ∷ 82 ∷ 67 ∷ 32 ∷ 48 ∷ 120 ∷ l) (append-assoc (numeral 16 p) (32 ∷ (numeral 10 s ++ [])) (10 ∷ []))
 
-pub order-line : (o : OrderRecord) → o .n ≤ 4
-    → orderLine (orderIn o) ≡ wORDER ++ (spaced 10 (o .n ∷ o .v ∷ o .bits ∷ o .m ∷ o .d ∷ []) ++ (spaced 8 (take (o .n) (o .g1 ∷ o .g2 ∷ o .g3 ∷ o .g4 ∷ [])) ++ (10 ∷ [])))
+-- gs are all four generators
+pub order-line : (o : OrderRecord) (gs : List ℕ) → gs ≡ o .generators → o .n ≤ length gs
+    → orderLine (orderIn o) ≡ wORDER ++ (spaced 10 (o .n ∷ o .v ∷ o .bits ∷ o .m ∷ o .d ∷ []) ++ (spaced 8 (take (o .n) gs) ++ (10 ∷ [])))
 unfolding orderLine line decimal octal spaced orderIn
-order-line o h =
+order-line o gs e h =
     ap (λ (l : List ℕ). wORDER ++ (l ++ (10 ∷ []))) words ∙ ap (λ (l : List ℕ). wORDER ++ l) (append-assoc (spaced 10 (numbers (o .n))) (spaced 8 four) (10 ∷ []))
   where
     four : List ℕ
-    four = take (o .n) (o .g1 ∷ o .g2 ∷ o .g3 ∷ o .g4 ∷ [])
+    four = take (o .n) gs
+
+    own : four ≡ orderIn o .generators
+    own = ap (take (o .n)) e ∙ generators-in o (rw e at h)
 
     numbers : ℕ → List ℕ
     numbers n = n ∷ o .v ∷ o .bits ∷ o .m ∷ o .d ∷ []
@@ -67,4 +71,4 @@ order-line o h =
     words =
         flatMap-append (λ w. 32 ∷ w) (map decimal (numbers (length (orderIn o .generators)))) (map octal (orderIn o .generators))
         ∙ ap₂ _++_ (flatMap-map (λ w. 32 ∷ w) decimal (numbers (length (orderIn o .generators))) ∙ ap (λ (n : ℕ). spaced 10 (numbers n)) (length-orderIn o))
-        (flatMap-map (λ w. 32 ∷ w) octal (orderIn o .generators) ∙ ap (spaced 8) (sym (generators-in o h)))
+        (flatMap-map (λ w. 32 ∷ w) octal (orderIn o .generators) ∙ ap (spaced 8) (sym own))

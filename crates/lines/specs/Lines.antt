@@ -1,4 +1,4 @@
--- What is printed, line by line (document 01, "What `dso` prints"), as bytes. A byte is the number of its character in ASCII.
+-- What is printed, line by line (document 01, "What `dso` prints", as document 02 left the lines), as bytes. A byte is the number of its character in ASCII.
 -- Assumes nothing.
 use Prim.Native.Nat.{ℕ, zero, suc, _+_, _/_, _%_}
 use mathlib.Core.Bool.{cond}

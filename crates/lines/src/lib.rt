@@ -10,6 +10,7 @@ ghost use Rattle.lines.specs.Model.Steps.{Put, ToPutCounts};
 use numbers::put_digits;
 use numbers::put_numbers;
 use order::record::OrderRecord;
+use order::record::generators_of;
 
 mod numbers;
 
@@ -42,7 +43,7 @@ pub fn put_order(buffer: &mut [u8], at: usize, o: OrderRecord) -> usize
     ensures { λ r. ⌜ Put 213 (now (buffer .entry)) at (orderLine (orderIn o)) (now (buffer .exit)) r ⌝ }
 {
     let numbers = [o.n, o.v, o.bits, o.m, o.d];
-    let generators = [o.g1, o.g2, o.g3, o.g4];
+    let generators = generators_of(o);
     let n = o.n as usize;
     let after_first = put_bytes(buffer, at, b"ORDER");
     let after_numbers = put_numbers(buffer, after_first, 10, &numbers);

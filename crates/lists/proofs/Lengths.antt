@@ -7,7 +7,7 @@ use mathlib.Core.Path.{_≡_, refl, sym, ap, ap₂, _∙_, fun-ext}
 use mathlib.Core.Bool.{Bool, true, false, cond}
 use mathlib.Core.List.{List, [], _∷_, _++_, map, flatMap}
 use lib.Dec.{T}
-use lib.ListN.{length, getD, replicate, List·getD-append, getD-replicate, length-append, length-map, length-replicate}
+use lib.ListN.{length, getD, take, replicate, List·getD-append, getD-replicate, length-append, length-map, length-replicate}
 use lib.Seq.{getD-append-add, ext-getD}
 use Rattle.lists.specs.Lists.{upFrom, filter, sum, padded}
 
@@ -113,6 +113,17 @@ map-upFrom-suc f n (suc k) = ap₂ _∷_ (ap f (one-more n)) (map-upFrom-suc f (
     one-more x = omega arith
 
 -- a range in two
+-- the first n entries, read one by one
+pub take-getD : {A : Type 0} (z : A) (xs : List A) (n : ℕ) → n ≤ length xs → take n xs ≡ map (λ k. getD xs k z) (upFrom 0 n)
+unfolding upFrom
+take-getD z xs zero h = refl
+take-getD z [] (suc n) h = absurd (omega arith)
+take-getD {A} z (x ∷ xs) (suc n) h =
+    ap (λ l. x ∷ l) (take-getD z xs n (le-of-suc-le-suc h) ∙ ap (λ f. map f (upFrom 0 n)) (fun-ext one-more) ∙ map-upFrom-suc (λ k. getD (x ∷ xs) k z) 0 n)
+  where
+    one-more : (k : ℕ) → getD (x ∷ xs) (suc k) z ≡ getD (x ∷ xs) (1 + k) z
+    one-more k = let e : suc k ≡ 1 + k = omega arith in ap (λ i. getD (x ∷ xs) i z) e
+
 pub upFrom-append : (x n m : ℕ) → upFrom x (n + m) ≡ upFrom x n ++ upFrom (x + n) m
 unfolding upFrom
 upFrom-append x zero m = ap₂ upFrom (sym (add-zero x)) (zero-add m)

@@ -11,13 +11,14 @@ use super::tables::turn;
 use code::link::event_states;
 use code::link::steps_of;
 use order::record::OrderRecord;
+use order::record::generators_of;
 
 // The work area is prepared for the order.
 pub fn prepare_for(order: OrderRecord, work: &mut [u64])
     requires { ⌜ AcceptedCode (orderIn order) × (tablesEnd ≤ length (now work)) ⌝ }
     ensures { λ _. ⌜ now (work .exit) ≡ prepared (orderIn order .generators) (order .v) (order .d) (now (work .entry)) ⌝ }
 {
-    let all = [order.g1, order.g2, order.g3, order.g4];
+    let all = generators_of(order);
     let n = order.n as usize;
     prepare(&all[..n], work, order.v, order.d);
 }

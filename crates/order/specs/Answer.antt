@@ -1,5 +1,5 @@
 -- What a call answers: its values, or document 01's number of the question that says no.
--- Every enum of the library has a definition of what its cases say in these words (`weighedAs`, `searchedAs`, ..), and the promises use it.
+-- Every enum of the library has a definition of what its cases say in these words (`weighedAs`, `answeredAs`, ..), and the promises use it.
 -- Assumes nothing.
 use Prim.Native.Nat.{ℕ, zero, suc}
 

@@ -2,15 +2,14 @@
 -- it; and its record of bytes, read in document 01's order of questions: 1 to 9, then 16.
 -- Assumes nothing.
 use Prim.Native.Nat.{ℕ, _+_, _-_, _*_}
-use mathlib.Core.Bool.{Bool, _&&_}
+use mathlib.Core.Bool.{Bool, true, false, _&&_}
 use mathlib.Core.List.{List, [], _∷_, _++_, map}
 use lib.Dec.{leb, eqb}
 use lib.ListN.{length, getD}
 use Rattle.lists.specs.Lists.{upFrom}
-use Rattle.order.specs.Questions.{Question, firstNo, from-to, shapeQuestions, checkDegree, threshold, generatorQuestions}
+use Rattle.order.specs.Questions.{Question, firstNo, from-to, highestVersion, longestWord, shapeQuestions, checkDegree, threshold, generatorQuestions}
 use Rattle.order.specs.Answer.{Answer, accepted, unless}
 use Rattle.order.specs.declared.questions.Takes.{Takes}
-use Rattle.order.specs.declared.questions.Takes.the-variants as T
 
 pub record Order : Type 0 where
   -- the kind of link: 1 tail-biting, 2 terminated (document 01: the version of the record)
@@ -38,16 +37,31 @@ ofWeight w counts = getD counts (w - 1) 0
 
 -- ---- the questions about an order
 
--- 6 and 7, as far as a call takes them: the code alone, a threshold too, or everything
-unfoldable pub numberQuestions : Takes → Order → List Question
-numberQuestions T.Code o = []
-numberQuestions T.Threshold o = threshold (o .d) ∷ []
-numberQuestions T.Everything o = checkDegree (o .N) (o .m) ∷ threshold (o .d) ∷ []
+-- what a call takes of an order (the struct `Takes`), and so asks about: versions and lengths up to some, and whether the degree and the threshold.
+-- The code alone; the threshold too; everything
+abbrev pub theCode : Takes
+theCode = record { versions = highestVersion; longest = longestWord; degree = false; threshold = false }
 
--- 2 to 9, then 16. Every call that takes an order asks this list first, so a new question about orders has one place.
+abbrev pub andThreshold : Takes
+andThreshold = record { versions = highestVersion; longest = longestWord; degree = false; threshold = true }
+
+abbrev pub everything : Takes
+everything = record { versions = highestVersion; longest = longestWord; degree = true; threshold = true }
+
+-- a question that is asked, or not
+unfoldable pub ifTaken : Bool → Question → List Question
+ifTaken true q = q ∷ []
+ifTaken false q = []
+
+-- 6 and 7, as far as a call takes them
+unfoldable pub numberQuestions : Takes → Order → List Question
+numberQuestions takes o = ifTaken (takes .degree) (checkDegree (o .N) (o .m)) ++ ifTaken (takes .threshold) (threshold (o .d))
+
+-- 2 to 9, then 16. Every call that takes an order asks such a list first, so a new question about orders has one place.
 unfoldable pub orderQuestions : Takes → Order → List Question
 orderQuestions takes o =
-    shapeQuestions (o .version) (length (o .generators)) (o .v) (o .N) ++ (numberQuestions takes o ++ generatorQuestions (o .v) (o .generators))
+    shapeQuestions (takes .versions) (takes .longest) (o .version) (length (o .generators)) (o .v) (o .N)
+    ++ (numberQuestions takes o ++ generatorQuestions (o .v) (o .generators))
 
 -- ---- the record: the length of what follows in 2 bytes, the version, n, v, N, m, d, then n generators of 2 bytes each, all big-endian
 
@@ -68,9 +82,9 @@ readFields bytes =
 unfoldable pub lengthRight : List ℕ → Bool
 lengthRight bytes = leb 2 (length bytes) && eqb (be16 bytes 0) (length bytes - 2)
 
--- there is a version byte, and it is 1 or 2
+-- there is a version byte, of a version that is known
 unfoldable pub versionRight : List ℕ → Bool
-versionRight bytes = leb 3 (length bytes) && from-to 1 2 (getD bytes 2 0)
+versionRight bytes = leb 3 (length bytes) && from-to 1 highestVersion (getD bytes 2 0)
 
 -- n is there, and the length is 6 + 2n; that n is from 2 to 4 is the first question about the order
 unfoldable pub countRight : List ℕ → Bool
@@ -82,4 +96,4 @@ recordQuestions bytes = (1, lengthRight bytes) ∷ (2, versionRight bytes) ∷ (
 
 -- what reading a record gives: an order, or the number of the first question that says no
 unfoldable pub read : List ℕ → Answer Order
-read bytes = unless (firstNo (recordQuestions bytes ++ orderQuestions T.Everything (readFields bytes))) (accepted (readFields bytes))
+read bytes = unless (firstNo (recordQuestions bytes ++ orderQuestions everything (readFields bytes))) (accepted (readFields bytes))

@@ -1,6 +1,6 @@
 -- Document 01's questions 2 to 12, with 16 of document 02 (C-11) after 9, each as a test, and the number of the first that says no.
 -- Question 1 is about the bytes of a record (`Order.antt`, which has the questions about a whole order); 13 and 14 are asked once events
--- and paths have been counted (`listing`). A call asks the questions about the values that it takes, in the order in which they stand here.
+-- and paths have been counted (`jobs`). A call asks the questions about the values that it takes, in the order in which they stand here.
 -- Assumes nothing.
 use Prim.Native.Nat.{ℕ, _+_, _-_, _/_, _^_}
 use mathlib.Core.Bool.{Bool, cond, not, _&&_}
@@ -22,9 +22,13 @@ firstNo (q ∷ qs) = let rest = firstNo qs in cond (q .1) rest (q .0)
 unfoldable pub from-to : ℕ → ℕ → ℕ → Bool
 from-to low high x = leb low x && leb x high
 
--- 1 is a tail-biting link, 2 a terminated one (document 01: the version of a record)
-abbrev pub linkKind : ℕ → Question
-linkKind version = (2, from-to 1 2 version)
+-- the highest version of an order: 1 is a tail-biting link, 2 a terminated one (document 01: the version of a record)
+abbrev pub highestVersion : ℕ
+highestVersion = 2
+
+-- a call takes versions up to some one
+abbrev pub linkKind : ℕ → ℕ → Question
+linkKind versions version = (2, from-to 1 versions version)
 
 abbrev pub generatorCount : ℕ → Question
 generatorCount n = (3, from-to 2 4 n)
@@ -32,9 +36,13 @@ generatorCount n = (3, from-to 2 4 n)
 abbrev pub memory : ℕ → Question
 memory v = (4, from-to 1 8 v)
 
+-- the bits of the longest word
+abbrev pub longestWord : ℕ
+longestWord = 128
+
 -- `least` is v, or 1 where a call takes no v
-abbrev pub wordLength : ℕ → ℕ → Question
-wordLength least N = (5, from-to least 128 N)
+abbrev pub wordLength : (least longest N : ℕ) → Question
+wordLength least longest N = (5, from-to least longest N)
 
 abbrev pub checkDegree : ℕ → ℕ → Question
 checkDegree N m = (6, from-to 1 12 m && ltb m N)
@@ -78,9 +86,9 @@ below N u = (12, ltb u (2 ^ N))
 
 -- ---- the questions that calls ask together
 
--- 2, 3, 4 and 5, of n generators
-unfoldable pub shapeQuestions : (version n v N : ℕ) → List Question
-shapeQuestions version n v N = linkKind version ∷ generatorCount n ∷ memory v ∷ wordLength v N ∷ []
+-- 2, 3, 4 and 5, of n generators: versions and lengths up to those that the call takes
+unfoldable pub shapeQuestions : (versions longest version n v N : ℕ) → List Question
+shapeQuestions versions longest version n v N = linkKind versions version ∷ generatorCount n ∷ memory v ∷ wordLength v longest N ∷ []
 
 -- 8, 9 and 16
 unfoldable pub generatorQuestions : ℕ → List ℕ → List Question

@@ -11,12 +11,42 @@ use gcd::share_factor;
 // The numbers that a work area has at least.
 pub const WORK_SIZE: usize = 8192;
 
-// What a call takes of an order, and so asks about: its code alone, its code and threshold, or everything.
-pub enum Takes {
-    Code,
-    Threshold,
-    Everything,
+// The highest version of an order: 1 is a tail-biting link, 2 a terminated one.
+pub const HIGHEST_VERSION: u64 = 2;
+
+// The bits of the longest word.
+pub const LONGEST_WORD: u64 = 128;
+
+// What a call takes of an order, and so asks about: versions and lengths up to these, and whether the degree and the threshold.
+pub struct Takes {
+    pub versions: u64,
+    pub longest: u64,
+    pub degree: bool,
+    pub threshold: bool,
 }
+
+// The code alone.
+pub const CODE: Takes = Takes {
+    versions: HIGHEST_VERSION,
+    longest: LONGEST_WORD,
+    degree: false,
+    threshold: false,
+};
+
+// The code and the threshold.
+pub const THRESHOLD: Takes = Takes {
+    versions: HIGHEST_VERSION,
+    longest: LONGEST_WORD,
+    degree: false,
+    threshold: true,
+};
+
+pub const EVERYTHING: Takes = Takes {
+    versions: HIGHEST_VERSION,
+    longest: LONGEST_WORD,
+    degree: true,
+    threshold: true,
+};
 
 pub fn from_to(low: u64, high: u64, x: u64) -> bool
     ensures { λ r. ⌜ r ≡ from-to low high x ⌝ }
@@ -105,10 +135,10 @@ pub fn some_has_bit(j: u64, generators: &[u64]) -> bool
 }
 
 // Questions 2, 3, 4 and 5: the number of the first that says no, or 0.
-pub fn ask_shape(version: u64, n: u64, v: u64, bits: u64) -> u64
-    ensures { λ r. ⌜ r ≡ firstNo (shapeQuestions version n v bits) ⌝ }
+pub fn ask_shape(versions: u64, longest: u64, version: u64, n: u64, v: u64, bits: u64) -> u64
+    ensures { λ r. ⌜ r ≡ firstNo (shapeQuestions versions longest version n v bits) ⌝ }
 {
-    if !from_to(1, 2, version) {
+    if !from_to(1, versions, version) {
         return 2;
     }
     if !from_to(2, 4, n) {
@@ -117,7 +147,7 @@ pub fn ask_shape(version: u64, n: u64, v: u64, bits: u64) -> u64
     if !from_to(1, 8, v) {
         return 4;
     }
-    if !from_to(v, 128, bits) {
+    if !from_to(v, longest, bits) {
         return 5;
     }
     0

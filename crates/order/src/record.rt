@@ -1,12 +1,14 @@
 // The order record, read from any bytes.
 ghost use mathlib.Core.Path.{_≡_};
-ghost use mathlib.Core.List.{[], _∷_};
 ghost use Prim.Native.Nat.{_<_, _≤_};
 ghost use lib.ListN.{length, getD, take};
-ghost use Rattle.order.specs.Questions.{firstNo, checkDegree, threshold, generatorQuestions};
-ghost use Rattle.order.specs.Order.{withLength, be16, lengthRight, versionRight, countRight, read, recordQuestions, numberQuestions, orderQuestions};
+ghost use Rattle.order.specs.Questions.{firstNo, generatorQuestions};
+ghost use Rattle.order.specs.Order.{withLength, be16, lengthRight, versionRight, countRight, ifTaken, read, recordQuestions, numberQuestions, orderQuestions};
+ghost use Rattle.order.specs.Answer.{refused};
 ghost use Rattle.order.specs.Answers.{orderIn, readingOf};
 ghost use Rattle.order.specs.Model.Fields.{fieldsOf};
+use super::questions::EVERYTHING;
+use super::questions::HIGHEST_VERSION;
 use super::questions::Takes;
 use super::questions::ask_generators;
 use super::questions::ask_shape;
@@ -22,33 +24,30 @@ pub struct OrderRecord {
     pub bits: u64,
     pub m: u64,
     pub d: u64,
-    pub g1: u64,
-    pub g2: u64,
-    pub g3: u64,
-    pub g4: u64,
+    pub generators: [u64; 4],
 }
 
-pub enum Reading {
-    Order(OrderRecord),
-    Refused(u64),
+// What reading a record answers: the number of the refusal, or 0 and the order.
+#[repr(C)]
+pub struct Reading {
+    pub refusal: u64,
+    pub order: OrderRecord,
 }
 
 // The same order for words of `bits` bits.
 pub fn with_length(bits: u64, order: OrderRecord) -> OrderRecord
     ensures { λ r. ⌜ orderIn r ≡ withLength bits (orderIn order) ⌝ }
 {
-    OrderRecord {
-        version: order.version,
-        n: order.n,
-        v: order.v,
-        bits,
-        m: order.m,
-        d: order.d,
-        g1: order.g1,
-        g2: order.g2,
-        g3: order.g3,
-        g4: order.g4,
-    }
+    let mut other = order;
+    other.bits = bits;
+    other
+}
+
+// All four generators of the struct, of which the first n are the order's.
+pub fn generators_of(order: OrderRecord) -> [u64; 4]
+    ensures { λ r. ⌜ (r ≡ order .generators) × (length r ≡ 4) ⌝ }
+{
+    order.generators
 }
 
 // The byte at i; 0 past the end.
@@ -80,14 +79,14 @@ fn length_right(bytes: &[u8]) -> bool
     two_at(bytes, 0) == size - 2
 }
 
-// Question 2: is there a version byte, and is it 1 or 2?
+// Question 2: is there a version byte, and is it a version that is known?
 fn version_right(bytes: &[u8]) -> bool
     ensures { λ r. ⌜ r ≡ versionRight (now (bytes .entry)) ⌝ }
 {
     if bytes.len() < 3 {
         return false;
     }
-    from_to(1, 2, byte_at(bytes, 2))
+    from_to(1, HIGHEST_VERSION, byte_at(bytes, 2))
 }
 
 // Question 3, of the record: is n there, and is the length 6 + 2n?
@@ -126,58 +125,52 @@ fn fields(bytes: &[u8]) -> OrderRecord
         bits: byte_at(bytes, 5),
         m: byte_at(bytes, 6),
         d: byte_at(bytes, 7),
-        g1: two_at(bytes, 8),
-        g2: two_at(bytes, 10),
-        g3: two_at(bytes, 12),
-        g4: two_at(bytes, 14),
+        generators: [
+            two_at(bytes, 8),
+            two_at(bytes, 10),
+            two_at(bytes, 12),
+            two_at(bytes, 14),
+        ],
     }
 }
 
-// Question 7: the number, or 0.
-fn ask_threshold(d: u64) -> u64
-    ensures { λ r. ⌜ r ≡ firstNo (threshold d ∷ []) ⌝ }
+// One question, where it is asked: its number where the answer is no, or 0.
+fn ask_if(taken: bool, number: u64, yes: bool) -> u64
+    ensures { λ r. ⌜ r ≡ firstNo (ifTaken taken (number, yes)) ⌝ }
 {
-    if !from_to(1, 64, d) {
-        return 7;
+    if !taken {
+        return 0;
     }
-    0
+    if yes {
+        return 0;
+    }
+    number
 }
 
-// Questions 6 and 7: the number of the first that says no, or 0.
-fn ask_degree(bits: u64, m: u64, d: u64) -> u64
-    ensures { λ r. ⌜ r ≡ firstNo (checkDegree bits m ∷ threshold d ∷ []) ⌝ }
-{
-    if !degree_fits(bits, m) {
-        return 6;
-    }
-    ask_threshold(d)
-}
-
-// The same, as far as the call takes them.
+// Questions 6 and 7, as far as the call takes them: the number of the first that says no, or 0.
 fn ask_numbers(takes: Takes, o: OrderRecord) -> u64
     ensures { λ r. ⌜ r ≡ firstNo (numberQuestions takes (orderIn o)) ⌝ }
 {
-    match takes {
-        Takes::Code => 0,
-        Takes::Threshold => ask_threshold(o.d),
-        Takes::Everything => ask_degree(o.bits, o.m, o.d),
+    let degree = ask_if(takes.degree, 6, degree_fits(o.bits, o.m));
+    if degree != 0 {
+        return degree;
     }
+    ask_if(takes.threshold, 7, from_to(1, 64, o.d))
 }
 
-// Questions 8, 9 and 16 of the first n of four generators.
-fn ask_four(v: u64, n: usize, g1: u64, g2: u64, g3: u64, g4: u64) -> u64
+// Questions 8, 9 and 16 of the first n of four generators. That there are four is told too, since a caller does not know it of a field.
+fn ask_four(v: u64, n: usize, generators: [u64; 4]) -> u64
     requires { ⌜ (v < 63) × (n ≤ 4) ⌝ }
-    ensures { λ r. ⌜ r ≡ firstNo (generatorQuestions v (take n (g1 ∷ g2 ∷ g3 ∷ g4 ∷ []))) ⌝ }
+    ensures { λ r. ⌜ (r ≡ firstNo (generatorQuestions v (take n generators))) × (length generators ≡ 4) ⌝ }
 {
-    let all = [g1, g2, g3, g4];
-    ask_generators(v, &all[..n])
+    ask_generators(v, &generators[..n])
 }
 
 // Questions 2 to 9, then 16, as far as the call takes them: the number of the first that says no, or 0.
 pub fn ask_order(takes: Takes, o: OrderRecord) -> u64
     ensures { λ r. ⌜ r ≡ firstNo (orderQuestions takes (orderIn o)) ⌝ }
 {
-    let shape = ask_shape(o.version, o.n, o.v, o.bits);
+    let shape = ask_shape(takes.versions, takes.longest, o.version, o.n, o.v, o.bits);
     if shape != 0 {
         return shape;
     }
@@ -185,7 +178,25 @@ pub fn ask_order(takes: Takes, o: OrderRecord) -> u64
     if numbers != 0 {
         return numbers;
     }
-    ask_four(o.v, o.n as usize, o.g1, o.g2, o.g3, o.g4)
+    let generators = o.generators;
+    ask_four(o.v, o.n as usize, generators)
+}
+
+fn refuse(number: u64) -> Reading
+    ensures { λ r. ⌜ r ≡ readingOf (refused number) ⌝ }
+{
+    Reading {
+        refusal: number,
+        order: OrderRecord {
+            version: 0,
+            n: 0,
+            v: 0,
+            bits: 0,
+            m: 0,
+            d: 0,
+            generators: [0; 4],
+        },
+    }
 }
 
 // The order that the bytes give, or the number of the first question that says no.
@@ -194,12 +205,12 @@ pub fn read_order(bytes: &[u8]) -> Reading
 {
     let outside = ask_record(bytes);
     if outside != 0 {
-        return Reading::Refused(outside);
+        return refuse(outside);
     }
-    let o = fields(bytes);
-    let inside = ask_order(Takes::Everything, o);
+    let order = fields(bytes);
+    let inside = ask_order(EVERYTHING, order);
     if inside != 0 {
-        return Reading::Refused(inside);
+        return refuse(inside);
     }
-    Reading::Order(o)
+    Reading { refusal: 0, order }
 }

@@ -3,7 +3,8 @@
 use mathlib.Core.Path.{_≡_, sym, ap, ap₂, _∙_, subst}
 use mathlib.Core.Bool.{true, false}
 use Prim.Native.Nat.{ℕ, _+_, _-_, _*_, _/_, _%_, _^_, _≤_, _<_}
-use native.Mathlib.Nat.{one-mul, zero-add, add-zero, add-assoc, add-comm, add-mul, mul-assoc, mul-comm, mul-right-comm, div-one, div-eq-of-lt, mod-eq-of-lt, mod-lt, lt-of-lt-of-le, le-trans, le-of-eq, sub-add-cancel, mul-div-mul-right, mul-div-left, mul-mod-left, mul-add-div-right, div-add-mod', div-lt-iff-lt-mul, lt-of-mul-lt-mul-right, le-add-right, lt-of-le-of-lt}
+use native.Mathlib.Nat.{one-mul, zero-add, add-zero, add-assoc, add-comm, add-mul, mul-assoc, mul-comm, mul-right-comm, div-one, div-eq-of-lt, mod-eq-of-lt, mod-lt, lt-of-lt-of-le, le-trans, le-of-eq, sub-add-cancel, mul-div-mul-right, mul-div-left, mul-mod-left, mul-add-div-right, div-add-mod'}
+use native.Mathlib.Nat.{div-lt-iff-lt-mul, lt-of-mul-lt-mul-right, le-add-right, lt-of-le-of-lt}
 use native.Mathlib.Decide.{decLt}
 use native.Mathlib.Omega.{arith}
 use borrow.Author.Tests.{lt-ltb, le-ltb}

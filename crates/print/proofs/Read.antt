@@ -1,81 +1,86 @@
--- An order that was read has a known kind of link, 2 to 4 generators and a threshold from 1 to 64, and the struct tells it whole. So what is printed for the struct is
--- what is printed for the record.
+-- What is printed for the struct that reading a record answers is what is printed for the record; and an order that was read is asked nothing again.
 -- Assumes nothing.
-use Prim.Native.Nat.{ℕ, zero, suc}
+use Prim.Native.Nat.{ℕ, zero, suc, _-_, _≤_}
+use native.Mathlib.Nat.{le-refl}
+use native.Mathlib.Omega.{arith}
 use mathlib.Core.Path.{_≡_, refl, sym, ap, _∙_, subst}
-use mathlib.Core.List.{List, _++_}
-use Rattle.order.specs.Questions.{firstNo}
+use mathlib.Core.List.{List, [], _∷_, _++_}
+use borrow.Author.Tests.{le-leb}
+use lib.ListN.{length}
+use Rattle.order.specs.Questions.{firstNo, room, workSize}
 use Rattle.order.specs.Answer.{accepted, unless}
-use Rattle.order.specs.Order.{Order, recordQuestions, orderQuestions, readFields, read}
+use Rattle.order.specs.Order.{Order, withLength, everything, recordQuestions, orderQuestions, readFields, read}
 use Rattle.order.specs.Answers.{orderIn, recordOf, readingOf}
-use Rattle.order.specs.Model.Accepted.{AcceptedAs, AcceptedWhole}
-use Rattle.order.specs.declared.questions.Takes.the-variants as T
+use Rattle.order.specs.Model.Accepted.{AcceptedWhole}
 use Rattle.order.specs.declared.record.OrderRecord.{OrderRecord}
 use Rattle.order.specs.declared.record.Reading.{Reading}
-use Rattle.order.specs.declared.record.Reading.the-variants as R
-use Rattle.order.proofs.FirstNo.{none-in-parts}
-use Rattle.order.proofs.Asked.{accepted-order}
+use Rattle.order.proofs.FirstNo.{none-in-parts, firstNo-none, firstNo-yes, refused-later}
+use Rattle.order.proofs.Asked.{numbered-order, length-orderIn, accepted-whole}
 use Rattle.order.proofs.Records.{record-numbered, order-of-record}
-use Rattle.search.specs.Calls.{searchCall}
+use Rattle.jobs.specs.declared.Job.the-variants as J
+use Rattle.calls.specs.Calls.{jobQuestions, questions}
+use Rattle.search.specs.Calls.{searchQuestions, searchCall}
 use Rattle.text.specs.Text.{refusalText}
+use Rattle.text.specs.Model.Steps.{RowAccepted}
 use Rattle.print.specs.Printed.{lent, printedSearch, printedReading, printed}
-use Rattle.print.specs.Model.Steps.{Small}
-
--- what is printed for an answer of `read_order`
-shownFor : Reading → List ℕ
-shownFor (R.Order o) = printedSearch (orderIn o) (searchCall (orderIn o) lent)
-shownFor (R.Refused k) = refusalText k
-
--- what is known of it
-Known : Reading → Type 0
-Known (R.Order o) = Small o
-Known (R.Refused k) = Unit {0}
 
 module _ (bytes : List ℕ) where
-  abbrev asked : ℕ
-  asked = firstNo (recordQuestions bytes ++ orderQuestions T.Everything (readFields bytes))
+  abbrev why : ℕ
+  why = firstNo (recordQuestions bytes ++ orderQuestions everything (readFields bytes))
 
-  passed : asked ≡ 0 → AcceptedWhole (readFields bytes)
-  unfolding AcceptedAs
-  passed e = accepted-order T.Everything (readFields bytes) (none-in-parts (recordQuestions bytes) (orderQuestions T.Everything (readFields bytes)) (record-numbered bytes) e .1)
+  abbrev Passed : Order → Type 0
+  Passed o = firstNo (orderQuestions everything o) ≡ 0
 
-  small : asked ≡ 0 → Small (recordOf (readFields bytes))
-  unfolding recordOf
-  small e =
-      let acc = passed e .order in
+  -- what is known of a reading for which this text is printed
+  record Known (r : Reading) (text : List ℕ) : Type 0 where
+    refusal : (r .refusal ≡ 0 → ⊥) → refusalText (r .refusal) ≡ text
+    order : r .refusal ≡ 0 → Passed (orderIn (r .order)) × (printedSearch (orderIn (r .order)) (searchCall (orderIn (r .order)) lent) ≡ text)
+
+  passed : why ≡ 0 → Passed (readFields bytes)
+  passed e = none-in-parts (recordQuestions bytes) (orderQuestions everything (readFields bytes)) (record-numbered bytes) e .1
+
+  known : Known (readingOf (read bytes)) (printed bytes)
+  unfolding read printed unless readingOf printedReading
+  known = by why refl
+    where
+      by : (k : ℕ) → why ≡ k → Known (readingOf (unless k (accepted (readFields bytes)))) (printedReading (unless k (accepted (readFields bytes))))
+      by zero e =
+          let whole = order-of-record (readFields bytes) in
+          record {
+            refusal = λ n. absurd (n refl);
+            order = λ _. (subst Passed (sym whole) (passed e), ap (λ (o : Order). printedSearch o (searchCall o lent)) whole);
+          }
+      by (suc k) e = record { refusal = λ _. refl; order = λ z. absurd (omega (arith, z)) }
+
+  pub read-refused : (r : Reading) → r ≡ readingOf (read bytes) → (r .refusal ≡ 0 → ⊥) → refusalText (r .refusal) ≡ printed bytes
+  read-refused r e n = subst (λ (x : Reading). Known x (printed bytes)) (sym e) known .refusal n
+
+  pub read-accepted : (r : Reading) → r ≡ readingOf (read bytes) → r .refusal ≡ 0
+      → Passed (orderIn (r .order)) × (printedSearch (orderIn (r .order)) (searchCall (orderIn (r .order)) lent) ≡ printed bytes)
+  read-accepted r e z = subst (λ (x : Reading). Known x (printed bytes)) (sym e) known .order z
+
+-- ---- what follows for an order that was read
+
+module _ (o : OrderRecord) (read : firstNo (orderQuestions everything (orderIn o)) ≡ 0) where
+  whole : AcceptedWhole (orderIn o)
+  whole = accepted-whole (orderIn o) read
+
+  -- no question of the search says no: its lists have room
+  pub none-asked : (plain undetected : ℕ) → 63 ≤ plain → 63 ≤ undetected → firstNo (searchQuestions (orderIn o) plain undetected workSize) ≡ 0
+  unfolding searchQuestions questions jobQuestions withLength
+  none-asked plain undetected p u =
+      let d = orderIn o .d in
+      let most = whole .order .threshold .at-most-64 in
+      let rooms = firstNo-yes (room (d - 1) plain) _ (le-leb (d - 1) plain (omega (arith, p, most))) ∙ firstNo-yes (room (d - 1) undetected) _ (le-leb (d - 1) undetected (omega (arith, u, most)))
+      ∙ firstNo-yes (room workSize workSize) _ (le-leb workSize workSize (le-refl workSize)) ∙ firstNo-none in
+      sym (refused-later (orderQuestions everything (orderIn o)) (jobQuestions J.Choose (orderIn o .m) (d - 1) plain undetected workSize) 0 0 (numbered-order everything (orderIn o)) (sym read) refl (sym rooms))
+
+  pub row-room : (plain undetected size : ℕ) → 63 ≤ plain → 63 ≤ undetected → 4096 ≤ size → RowAccepted (o .n) (o .d) plain undetected size
+  unfolding orderIn
+  row-room plain undetected size p u b =
+      let d = whole .order .threshold .at-most-64 in
       record {
-        some-version = acc .code .some-version;
-        known-version = acc .code .known-version;
-        two-generators = acc .code .some-generators;
-        four-generators = acc .code .few-generators;
-        some-weight = acc .threshold .some-weight;
-        some-counts = acc .threshold .at-most-64;
+        at-most-4 = rw length-orderIn at (whole .order .code .few-generators);
+        counts = record { at-most-63 = omega (arith, d); plain-counts = omega (arith, p, d); undetected-counts = omega (arith, u, d) };
+        bytes = b;
       }
-
-  known : Known (readingOf (read bytes))
-  unfolding read unless readingOf Known
-  known = by asked refl
-    where
-      by : (k : ℕ) → asked ≡ k → Known (readingOf (unless k (accepted (readFields bytes))))
-      by zero e = small e
-      by (suc k) e = tt
-
-  shown : shownFor (readingOf (read bytes)) ≡ printed bytes
-  unfolding read printed unless readingOf shownFor printedReading
-  shown = by asked refl
-    where
-      by : (k : ℕ) → asked ≡ k → shownFor (readingOf (unless k (accepted (readFields bytes)))) ≡ printedReading (unless k (accepted (readFields bytes)))
-      by zero e = ap (λ (o : Order). printedSearch o (searchCall o lent)) (order-of-record (readFields bytes) (passed e .order .code .few-generators))
-      by (suc k) e = refl
-
-  pub read-small : (o : OrderRecord) → R.Order o ≡ readingOf (read bytes) → Small o
-  unfolding Known
-  read-small o e = subst Known (sym e) known
-
-  pub read-order-shown : (o : OrderRecord) → R.Order o ≡ readingOf (read bytes) → printedSearch (orderIn o) (searchCall (orderIn o) lent) ≡ printed bytes
-  unfolding shownFor
-  read-order-shown o e = ap shownFor e ∙ shown
-
-  pub read-refusal-shown : (k : ℕ) → R.Refused k ≡ readingOf (read bytes) → refusalText k ≡ printed bytes
-  unfolding shownFor
-  read-refusal-shown k e = ap shownFor e ∙ shown

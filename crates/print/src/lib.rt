@@ -1,24 +1,28 @@
 // What `dso` prints: from the bytes of one record to the bytes of its row, or of its refusal.
+// An order that was read is asked nothing again: the search is run, and its answer is laid out.
 ghost use mathlib.Core.Path.{_≡_};
 ghost use Prim.Native.Nat.{_≤_};
 ghost use lib.ListN.{length, replicate};
 ghost use Rattle.lists.specs.Lists.{padded};
-ghost use Rattle.order.specs.Questions.{workSize};
-ghost use Rattle.events.specs.Events.{noEvent};
-ghost use Rattle.search.specs.Calls.{searchedAs, searchTables, searchCall};
-ghost use Rattle.text.specs.Text.{refusalText};
+ghost use Rattle.order.specs.Questions.{firstNo, workSize};
+ghost use Rattle.order.specs.Order.{everything, orderQuestions};
 ghost use Rattle.order.specs.Answers.{orderIn};
-ghost use Rattle.print.specs.Printed.{lent, printedRow, printedSearch, printed};
-ghost use Rattle.print.specs.Model.Steps.{counted, Small, ToPrint, Shown, sizeOf};
+ghost use Rattle.row.specs.Answered.{answeredAs};
+ghost use Rattle.events.specs.Events.{noEvent};
+ghost use Rattle.jobs.specs.Jobs.{searchTables};
+ghost use Rattle.search.specs.Calls.{searchQuestions, searchCall};
+ghost use Rattle.text.specs.Text.{answerText};
+ghost use Rattle.text.specs.Model.Steps.{RowAccepted, Laid};
+ghost use Rattle.print.specs.Printed.{lent, printedSearch, printed};
+ghost use Rattle.print.specs.Model.Steps.{counted};
+use calls::run;
 use events::Event;
 use order::record::OrderRecord;
-use order::record::Reading;
 use order::record::read_order;
-use search::Searched;
-use search::search;
-use text::Written;
-use text::write_refusal;
-use text::write_row;
+use row::Answered;
+use search::choosing;
+use text::lay_refusal;
+use text::lay_row;
 
 // ---- the tables that are lent
 
@@ -29,9 +33,11 @@ fn search_events(
     plain: &mut [u64],
     undetected: &mut [u64],
     work: &mut [u64],
-) -> Searched
-    ensures { λ r. ⌜ (searchedAs r, (now (plain .exit), now (undetected .exit))) ≡ counted (searchCall (orderIn order) (searchTables (replicate 512 noEvent) (now (paths .entry)) (now (plain .entry)) (now (undetected .entry)) (now (work .entry)))) ⌝ }
+) -> Answered
+    requires { ⌜ firstNo (searchQuestions (orderIn order) (length (now plain)) (length (now undetected)) (length (now work))) ≡ 0 ⌝ }
+    ensures { λ r. ⌜ (answeredAs r, (now (plain .exit), now (undetected .exit))) ≡ counted (searchCall (orderIn order) (searchTables (replicate 512 noEvent) (now (paths .entry)) (now (plain .entry)) (now (undetected .entry)) (now (work .entry)))) ⌝ }
 {
+    let plan = choosing(order);
     let mut events = [Event {
         state: 0,
         length: 0,
@@ -39,12 +45,13 @@ fn search_events(
         low: 0,
         high: 0,
     }; 512];
-    search(order, &mut events, paths, plain, undetected, work)
+    run(0, plan, &mut events, paths, plain, undetected, work)
 }
 
 // The search with every table but the counts.
-fn search_paths(order: OrderRecord, plain: &mut [u64], undetected: &mut [u64]) -> Searched
-    ensures { λ r. ⌜ (searchedAs r, (now (plain .exit), now (undetected .exit))) ≡ counted (searchCall (orderIn order) (searchTables (replicate 512 noEvent) (replicate 4096 0) (now (plain .entry)) (now (undetected .entry)) (replicate workSize 0))) ⌝ }
+fn search_paths(order: OrderRecord, plain: &mut [u64], undetected: &mut [u64]) -> Answered
+    requires { ⌜ firstNo (searchQuestions (orderIn order) (length (now plain)) (length (now undetected)) workSize) ≡ 0 ⌝ }
+    ensures { λ r. ⌜ (answeredAs r, (now (plain .exit), now (undetected .exit))) ≡ counted (searchCall (orderIn order) (searchTables (replicate 512 noEvent) (replicate 4096 0) (now (plain .entry)) (now (undetected .entry)) (replicate workSize 0))) ⌝ }
 {
     let mut paths = [0; 4096];
     let mut work = [0; 8192];
@@ -53,46 +60,30 @@ fn search_paths(order: OrderRecord, plain: &mut [u64], undetected: &mut [u64]) -
 
 // ---- the text
 
-fn size_of(w: Written) -> usize
-    ensures { λ r. ⌜ r ≡ sizeOf w ⌝ }
-{
-    match w {
-        Written::Bytes(n) => n as usize,
-        Written::Refused(_k) => 0,
-    }
-}
-
-fn print_refusal(number: u64, text: &mut [u8]) -> usize
-    requires { ⌜ 4096 ≤ length (now text) ⌝ }
-    ensures { λ r. ⌜ Shown (refusalText number) (now (text .entry)) (now (text .exit)) r ⌝ }
-{
-    size_of(write_refusal(number, text))
-}
-
-fn print_searched(
+fn print_answer(
     o: OrderRecord,
-    a: Searched,
+    a: Answered,
     plain: &[u64],
     undetected: &[u64],
     text: &mut [u8],
 ) -> usize
-    requires { ⌜ ToPrint o (now plain) (now undetected) (now text) ⌝ }
-    ensures { λ r. ⌜ Shown (printedRow (orderIn o) (searchedAs a) (now (plain .entry)) (now (undetected .entry))) (now (text .entry)) (now (text .exit)) r ⌝ }
+    requires { ⌜ RowAccepted (o .n) (o .d) (length (now plain)) (length (now undetected)) (length (now text)) ⌝ }
+    ensures { λ r. ⌜ Laid (answerText (orderIn o) (answeredAs a) (now (plain .entry)) (now (undetected .entry))) (now (text .entry)) (now (text .exit)) r ⌝ }
 {
     match a {
-        Searched::Found(e, k, p, s) => size_of(write_row(o, e, k, p, s, plain, undetected, text)),
-        Searched::Refused(k) => print_refusal(k, text),
+        Answered::Row(row) => lay_row(o, row, plain, undetected, text),
+        Answered::Refused(k) => lay_refusal(k, text),
     }
 }
 
 fn print_order(o: OrderRecord, text: &mut [u8]) -> usize
-    requires { ⌜ Small o × (4096 ≤ length (now text)) ⌝ }
-    ensures { λ r. ⌜ Shown (printedSearch (orderIn o) (searchCall (orderIn o) lent)) (now (text .entry)) (now (text .exit)) r ⌝ }
+    requires { ⌜ (firstNo (orderQuestions everything (orderIn o)) ≡ 0) × (4096 ≤ length (now text)) ⌝ }
+    ensures { λ r. ⌜ Laid (printedSearch (orderIn o) (searchCall (orderIn o) lent)) (now (text .entry)) (now (text .exit)) r ⌝ }
 {
     let mut plain = [0; 63];
     let mut undetected = [0; 63];
     let a = search_paths(o, &mut plain, &mut undetected);
-    print_searched(o, a, &plain, &undetected, text)
+    print_answer(o, a, &plain, &undetected, text)
 }
 
 // What `dso` prints for a record, and zeros after it; how many bytes it is.
@@ -101,8 +92,9 @@ pub fn print(bytes: &[u8], text: &mut [u8]) -> usize
     ensures { λ r. ⌜ (now (text .exit) ≡ padded (length (now (text .entry))) 0 (printed (now (bytes .entry)))) × (r ≡ length (printed (now (bytes .entry)))) ⌝ }
 {
     let reading = read_order(bytes);
-    match reading {
-        Reading::Order(o) => print_order(o, text),
-        Reading::Refused(k) => print_refusal(k, text),
+    if reading.refusal != 0 {
+        return lay_refusal(reading.refusal, text);
     }
+    let order = reading.order;
+    print_order(order, text)
 }

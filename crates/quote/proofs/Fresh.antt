@@ -18,18 +18,22 @@ use Rattle.code.specs.Links.{stepsOf}
 use Rattle.events.specs.Events.{events}
 use Rattle.events.proofs.Shorter.{atMost, events-shorter}
 use Rattle.paths.specs.Paths.{paths, pathRoom}
-use Rattle.listing.proofs.Answers.{too-many-events, too-many-paths, all-fit}
+use Rattle.jobs.proofs.Fits.{too-many-events, too-many-paths, all-fit}
 use Rattle.choice.specs.Choice.{Choice, choice}
-use Rattle.search.specs.declared.Searched.{Searched}
-use Rattle.search.specs.Calls.{Found, searchedAs, SearchTables, clearedSearch, filledSearch, searchQuestions, chosen, searched, searchCall}
+use Rattle.row.specs.declared.Row.{Row}
+use Rattle.row.specs.declared.Answered.{Answered}
+use Rattle.row.specs.Answered.{answeredAs}
+use Rattle.jobs.specs.Jobs.{SearchTables, clearedSearch, filledSearch, chosen, searched, ran}
+use Rattle.calls.specs.Calls.{call}
+use Rattle.search.specs.Calls.{searchQuestions, searchCall}
 use Rattle.search.specs.Promise.{NoneRefuses, NamesBest}
 use Rattle.search.proofs.Demand.{demand-3}
 use Rattle.quote.specs.Calls.{quoteQuestions, quoteCall}
 use Rattle.quote.specs.Promise.{MayQuote, SameRow, QuotePromise}
-use Rattle.quote.proofs.Asked.{asks-as-fresh, Lengths, lengths}
+use Rattle.quote.proofs.Quoted.{asks-as-fresh, Lengths, lengths}
 
 abbrev Outcome : Type 0
-Outcome = Answer Found × SearchTables
+Outcome = Answer Row × SearchTables
 
 same-row : (x : Outcome) → SameRow x x
 same-row x = record { answer = refl; paths = refl; plain = refl; undetected = refl; work = refl }
@@ -84,7 +88,7 @@ module _ (o : Order) (N′ : ℕ) (t : SearchTables) where
     ]
 
     pub quote-is-fresh : SameRow (quoteCall o N′ t) (searchCall q t)
-    unfolding quoteCall searchCall
+    unfolding quoteCall searchCall quoteQuestions searchQuestions call ran withLength
     quote-is-fresh =
         let same : why ≡ fresh-why = asks-as-fresh o N′ (may .tail-biting) (may .no-longer) (may .at-most-128) _ _ _ in
         subst (λ (k : ℕ). SameRow (unlessRefused why t (searched o q t)) (unlessRefused k t (searched q q t))) same
@@ -96,7 +100,7 @@ module _ (o : Order) (N′ : ℕ) (t : SearchTables) where
   NotRefused = (r : ℕ) → quoteCall o N′ t .0 ≡ refused r → ⊥
 
   none-early : NotRefused → why ≡ 0
-  unfolding quoteCall
+  unfolding quoteCall quoteQuestions call ran
   none-early n = by why refl
     where
       by : (k : ℕ) → why ≡ k → why ≡ 0
@@ -104,14 +108,14 @@ module _ (o : Order) (N′ : ℕ) (t : SearchTables) where
       by (suc k) e = absurd (n why (ap (λ (x : Outcome). x .0) (sym (leaves-refused t (searched o q t) why why refl (λ z. absurd (omega (arith, e, z)))))))
 
   as-searched : why ≡ 0 → quoteCall o N′ t ≡ searched o q t
-  unfolding quoteCall
+  unfolding quoteCall quoteQuestions call ran
   as-searched e = sym (leaves-answered t (searched o q t) why (sym e))
 
   may-quote : NotRefused → MayQuote o N′ t
   unfolding searched
   may-quote n =
       let e = none-early n in
-      let is : Lengths o N′ = lengths o N′ t e in
+      let is : Lengths o N′ = lengths o N′ _ _ _ e in
       record {
         tail-biting = is .tail-biting;
         no-longer = is .no-longer;
@@ -122,10 +126,10 @@ module _ (o : Order) (N′ : ℕ) (t : SearchTables) where
         ];
       }
 
-  may-accepted : (f : Found) → quoteCall o N′ t .0 ≡ accepted f → MayQuote o N′ t
+  may-accepted : (f : Row) → quoteCall o N′ t .0 ≡ accepted f → MayQuote o N′ t
   may-accepted f e = may-quote (λ r h. refused-not-accepted r f (sym h ∙ e))
 
-  is-best : (f : Found) → quoteCall o N′ t .0 ≡ accepted f → NamesBest q t (quoteCall o N′ t .1) (f .polynomial) (f .shared)
+  is-best : (f : Row) → quoteCall o N′ t .0 ≡ accepted f → NamesBest q t (quoteCall o N′ t .1) (f .polynomial) (f .shared)
   is-best f e =
       let same = quote-is-fresh (may-accepted f e) in
       let fresh = demand-3 q t .names-best f (sym (same .answer) ∙ e) in
@@ -136,7 +140,7 @@ module _ (o : Order) (N′ : ℕ) (t : SearchTables) where
         none-of-weight-0 = fresh .none-of-weight-0;
       }
 
-  is-accepted : ((f : Found) × (quoteCall o N′ t .0 ≡ accepted f)) ↔ (MayQuote o N′ t × NoneRefuses q t)
+  is-accepted : ((f : Row) × (quoteCall o N′ t .0 ≡ accepted f)) ↔ (MayQuote o N′ t × NoneRefuses q t)
   is-accepted = (
     λ h. let may = may-accepted (h .0) (h .1) in (may, demand-3 q t .accepts-exactly .0 (h .0, sym (quote-is-fresh may .answer) ∙ h .1)),
     λ h. let f = demand-3 q t .accepts-exactly .1 (h .1) in (f .0, quote-is-fresh (h .0) .answer ∙ f .1),
@@ -150,7 +154,7 @@ quote-promise o N′ lent = record {
 }
 
 -- of what `quote` answers and leaves: its contract is the premise
-pub quote-promises : (order : OrderRecord) (N′ : ℕ) (lent left : SearchTables) (r : Searched) → (searchedAs r, left) ≡ quoteCall (orderIn order) N′ lent
-    → QuotePromise (orderIn order) N′ lent (searchedAs r) left
+pub quote-promises : (order : OrderRecord) (N′ : ℕ) (lent left : SearchTables) (r : Answered) → (answeredAs r, left) ≡ quoteCall (orderIn order) N′ lent
+    → QuotePromise (orderIn order) N′ lent (answeredAs r) left
 quote-promises order N′ lent left r e =
     subst (λ (x : Outcome). QuotePromise (orderIn order) N′ lent (x .0) (x .1)) (sym e) (quote-promise (orderIn order) N′ lent)

@@ -11,7 +11,7 @@ use Rattle.code.specs.Links.{terminated, stepsOf, output, eventStates}
 use Rattle.code.specs.Weight.{weightOf, weight}
 use Rattle.code.specs.Trellis.{next, tapped, stepOutput, stepWeight, walkWeight, firstMeets}
 use Rattle.order.specs.Questions.{firstNo, from-to, inRange, hasBit, workSize, shapeQuestions, generatorQuestions}
-use Rattle.order.specs.Order.{withLength, ofWeight, numberQuestions, orderQuestions}
+use Rattle.order.specs.Order.{withLength, ofWeight, ifTaken, numberQuestions, orderQuestions}
 use Rattle.order.specs.Answer.{unless, unlessRefused}
 use Rattle.events.specs.Events.{isListed, eventsOfLength, eventsOfState, events, entry, noEvent, eventTable}
 use Rattle.poly.specs.Word.{halves}
@@ -19,11 +19,16 @@ use Rattle.paths.specs.Paths.{words, wordsOfWeight, weights, paths, plainCounts
 use Rattle.paths.specs.Part.{pathsTo, partFits, partOf, partNumber}
 use Rattle.undetected.specs.Undetected.{passes, undetectedCount, undetectedCounts}
 use Rattle.choice.specs.Choice.{candidates, fewer, unbettered, best, firstOf, choiceAmong, choice}
-use Rattle.listing.specs.Calls.{unlessTooMany}
-use Rattle.search.specs.Calls.{clearedSearch, filledSearch, searchQuestions, chosen, searched, searchCall}
-use Rattle.quote.specs.Calls.{quotedQuestions, quoteQuestions, quoteCall}
+use Rattle.jobs.specs.Jobs.{unlessTooMany, clearedSearch, filledSearch, chosen, searched, ran}
+use Rattle.calls.specs.Calls.{jobQuestions, questions, call}
+use Rattle.search.specs.Calls.{searchQuestions, searchCall}
+use Rattle.quote.specs.Calls.{longestQuoted, quoteQuestions, quoteCall}
 use Rattle.rows.specs.Rows.{lent, figuresOf, told, filledWith7, marked, paths₄, rows}
 
 pub rows-hold : map (λ line. told (line .0)) rows ≡ map (λ line. line .1) rows
-unfolding flatMap onesIn ones upFrom filter count all any padded cleared bit _⊕_ digitsThrough horner _⊗_ register remainder append polynomialQuestions wordQuestions appendCall terminated stepsOf output eventStates weightOf weight next tapped stepOutput stepWeight walkWeight firstMeets firstNo from-to inRange hasBit workSize divides total shareFactor withLength shapeQuestions numberQuestions generatorQuestions orderQuestions unless unlessRefused isListed eventsOfLength eventsOfState events entry noEvent eventTable words wordsOfWeight weights paths plainCounts halves pathTable pathRoom passes undetectedCount undetectedCounts candidates fewer unbettered best firstOf choiceAmong choice unlessTooMany clearedSearch filledSearch searchQuestions chosen searched searchCall quotedQuestions quoteQuestions quoteCall pathsTo partFits partOf partNumber ofWeight sum lent figuresOf told filledWith7 marked paths₄ rows
+unfolding flatMap onesIn ones upFrom filter count all any padded cleared bit _⊕_ digitsThrough horner _⊗_ register remainder append polynomialQuestions wordQuestions appendCall terminated stepsOf
+    output eventStates weightOf weight next tapped stepOutput stepWeight walkWeight firstMeets firstNo from-to inRange hasBit workSize divides total shareFactor withLength shapeQuestions ifTaken
+    numberQuestions generatorQuestions orderQuestions unless unlessRefused isListed eventsOfLength eventsOfState events entry noEvent eventTable words wordsOfWeight weights paths plainCounts halves
+    pathTable pathRoom passes undetectedCount undetectedCounts candidates fewer unbettered best firstOf choiceAmong choice unlessTooMany clearedSearch filledSearch jobQuestions questions
+    searchQuestions chosen searched ran call searchCall longestQuoted quoteQuestions quoteCall pathsTo partFits partOf partNumber ofWeight sum lent figuresOf told filledWith7 marked paths₄ rows
 rows-hold = refl

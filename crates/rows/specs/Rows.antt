@@ -9,14 +9,16 @@ use lib.ListN.{length, replicate}
 use Rattle.crc.specs.Check.{appendCall}
 use Rattle.code.specs.Weight.{weight}
 use Rattle.order.specs.Questions.{firstNo, workSize}
-use Rattle.order.specs.Order.{Order, orderQuestions}
-use Rattle.order.specs.declared.questions.Takes.the-variants as T
+use Rattle.order.specs.Order.{Order, everything, orderQuestions}
 use Rattle.events.specs.declared.Event.{Event}
 use Rattle.events.specs.Events.{ErrorEvent, events, noEvent}
 use Rattle.paths.specs.Paths.{paths, plainCounts, pathTable}
 use Rattle.paths.specs.Part.{partOf, partNumber}
 use Rattle.order.specs.Answer.{Answer, accepted, refused}
-use Rattle.search.specs.Calls.{Found, found, SearchTables, searchTables, searchCall}
+use Rattle.row.specs.declared.Row.{Row}
+use Rattle.row.specs.Answered.{row as found}
+use Rattle.jobs.specs.Jobs.{SearchTables, searchTables}
+use Rattle.search.specs.Calls.{searchCall}
 use Rattle.quote.specs.Calls.{quoteCall}
 
 -- what a line asks: the row of an order; what the search, and quoting the length N′, answer and leave of what they are lent; the first question about an
@@ -31,7 +33,7 @@ pub data Ask : Type 0 where
   part : (plain : List ℕ) (w : ℕ) (table : List ℕ) → Ask
 
 pub record Figures : Type 0 where
-  pub answer : Answer Found
+  pub answer : Answer Row
   pub events : List ErrorEvent
   pub paths : List ℕ
   pub plain : List ℕ
@@ -39,7 +41,7 @@ pub record Figures : Type 0 where
 
 pub data Told : Type 0 where
   figures : Figures → Told
-  answer-and-tables : Answer Found × SearchTables → Told
+  answer-and-tables : Answer Row × SearchTables → Told
   a-number : ℕ → Told
   an-answer : Answer ℕ → Told
   a-part : (number : ℕ) → List ℕ → Told
@@ -57,7 +59,7 @@ unfoldable pub told : Ask → Told
 told (row o) = figures (figuresOf o)
 told (searched o t) = answer-and-tables (searchCall o t)
 told (quoted o N′ t) = answer-and-tables (quoteCall o N′ t)
-told (question o) = a-number (firstNo (orderQuestions T.Everything o))
+told (question o) = a-number (firstNo (orderQuestions everything o))
 told (weigh o u) = a-number (weight o u)
 told (word N m p f) = an-answer (appendCall N m p f)
 told (part plain w table) = a-part (partNumber plain w table) (partOf plain w table)
@@ -79,14 +81,14 @@ order version v N m d gs = record { version = version; v = v; N = N; m = m; d = 
 abbrev code : (version v N : ℕ) → List ℕ → Order
 code version v N gs = order version v N 0 0 gs
 
-abbrev lineOf : Order → Answer Found → List ErrorEvent → List ℕ → List ℕ → List ℕ → Line
+abbrev lineOf : Order → Answer Row → List ErrorEvent → List ℕ → List ℕ → List ℕ → Line
 lineOf o answer es us plain undetected = (
   row o,
   figures (record { answer = answer; events = es; paths = us; plain = plain; undetected = undetected }),
 )
 
 -- of a tail-biting link
-abbrev line : (v N m d : ℕ) → List ℕ → Answer Found → List ErrorEvent → List ℕ → List ℕ → List ℕ → Line
+abbrev line : (v N m d : ℕ) → List ℕ → Answer Row → List ErrorEvent → List ℕ → List ℕ → List ℕ → Line
 line v N m d gs = lineOf (order 1 v N m d gs)
 
 abbrev S : List ℕ

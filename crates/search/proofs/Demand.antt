@@ -11,32 +11,35 @@ use lib.ListN.{length}
 use Rattle.lists.specs.Lists.{padded}
 use Rattle.lists.proofs.Tests.{lt-or-ge}
 use Rattle.order.specs.Questions.{firstNo}
-use Rattle.order.specs.Order.{Order}
+use Rattle.order.specs.Order.{Order, withLength, everything}
 use Rattle.order.specs.Answer.{Answer, accepted, refused}
 use Rattle.order.specs.Answers.{orderIn}
-use Rattle.order.specs.Model.Accepted.{AcceptedCode, AcceptedWhole, AcceptedAs}
-use Rattle.order.specs.declared.questions.Takes.the-variants as T
+use Rattle.order.specs.Model.Accepted.{AcceptedCode, AcceptedWhole}
 use Rattle.order.specs.declared.record.OrderRecord.{OrderRecord}
 use Rattle.order.proofs.FirstNo.{none-in-parts, leaves-refused, leaves-answered, refused-not-accepted}
-use Rattle.order.proofs.Asked.{numbered-order, accepted-order}
+use Rattle.order.proofs.Asked.{numbered-order, accepted-whole}
 use Rattle.events.specs.Events.{events}
 use Rattle.paths.specs.Paths.{paths, pathRoom}
-use Rattle.listing.proofs.Answers.{too-many-events, too-many-paths, all-fit}
+use Rattle.jobs.proofs.Fits.{too-many-events, too-many-paths, all-fit}
 use Rattle.undetected.specs.Undetected.{undetectedCounts, CountsUndetected}
 use Rattle.undetected.proofs.Undetected.{undetected-means-divided}
 use Rattle.choice.specs.Choice.{choice}
 use Rattle.choice.proofs.ByWeight.{undetected-of-weight, none-undetected}
 use Rattle.choice.proofs.Chosen.{choice-first-best, choice-counts}
-use Rattle.search.specs.declared.Searched.{Searched}
-use Rattle.search.specs.Calls.{Found, found, searchedAs, SearchTables, clearedSearch, filledSearch, searchQuestions, chosen, searched, searchCall}
+use Rattle.row.specs.declared.Row.{Row}
+use Rattle.row.specs.declared.Answered.{Answered}
+use Rattle.row.specs.Answered.{row, answeredAs}
+use Rattle.jobs.specs.Jobs.{SearchTables, clearedSearch, filledSearch, chosen, searched, ran}
+use Rattle.calls.specs.Calls.{questions, call}
+use Rattle.search.specs.Calls.{searchQuestions, searchCall}
 use Rattle.search.specs.Promise.{NoneRefuses, NamesBest, Promise}
 
-accepted-same : {f g : Found} → _≡_ {A = Answer Found} (accepted f) (accepted g) → f ≡ g
+accepted-same : {f g : Row} → _≡_ {A = Answer Row} (accepted f) (accepted g) → f ≡ g
 accepted-same e = cc
 
 module _ (o : Order) (t : SearchTables) where
   abbrev Outcome : Type 0
-  Outcome = Answer Found × SearchTables
+  Outcome = Answer Row × SearchTables
 
   -- the number of the first question before 13 that says no
   abbrev why : ℕ
@@ -51,7 +54,7 @@ module _ (o : Order) (t : SearchTables) where
   -- ---- refused, or chosen
 
   accepts : NoneRefuses o t → searchCall o t ≡ all
-  unfolding searchCall searched
+  unfolding searchCall searchQuestions call ran searched withLength
   accepts n =
       sym (leaves-answered t fitting why (sym (n .questions)))
       ∙ sym (all-fit o o (length (t .events)) (length (t .paths)) (clearedSearch t) all (n .events-fit) (n .paths-fit))
@@ -61,11 +64,11 @@ module _ (o : Order) (t : SearchTables) where
   Refuses = (r : ℕ) × (searchCall o t .0 ≡ refused r)
 
   refuses-early : (why ≡ 0 → ⊥) → Refuses
-  unfolding searchCall
+  unfolding searchCall searchQuestions call ran withLength
   refuses-early n = (why, ap (λ (x : Outcome). x .0) (sym (leaves-refused t fitting why why refl n)))
 
   refuses-late : why ≡ 0 → (r : ℕ) → _≡_ {A = Outcome} (refused r, clearedSearch t) fitting → Refuses
-  unfolding searchCall
+  unfolding searchCall searchQuestions call ran withLength
   refuses-late e r h = (r, ap (λ (x : Outcome). x .0) (sym (leaves-answered t fitting why (sym e)) ∙ sym h))
 
   either : NoneRefuses o t ⊎ Refuses
@@ -88,24 +91,24 @@ module _ (o : Order) (t : SearchTables) where
   -- ---- accepted
 
   whole : NoneRefuses o t → AcceptedWhole o
-  unfolding searchQuestions AcceptedAs
-  whole n = accepted-order T.Everything o (none-in-parts _ _ (numbered-order T.Everything o) (n .questions) .0)
+  unfolding searchQuestions questions withLength
+  whole n = accepted-whole o (none-in-parts _ _ (numbered-order everything o) (n .questions) .0)
 
   code : NoneRefuses o t → AcceptedCode o
   code n = whole n .order .code
 
   -- what is told where no question refuses
-  abbrev told : Found
-  told = found (length (events o)) (length (paths o)) (choice o .polynomial) (choice o .shared)
+  abbrev told : Row
+  told = row (length (events o)) (length (paths o)) (choice o .polynomial) (choice o .shared)
 
   is-accepted : NoneRefuses o t → searchCall o t .0 ≡ accepted told
   unfolding chosen
   is-accepted n = ap (λ (x : Outcome). x .0) (accepts n)
 
-  accepts-told : (f : Found) → searchCall o t .0 ≡ accepted f → NoneRefuses o t
+  accepts-told : (f : Row) → searchCall o t .0 ≡ accepted f → NoneRefuses o t
   accepts-told f same = ⊎-elim (λ n. n) (λ r. absurd (refused-not-accepted (r .0) f (sym (r .1) ∙ same))) either
 
-  accepts-exactly : ((f : Found) × (searchCall o t .0 ≡ accepted f)) ↔ NoneRefuses o t
+  accepts-exactly : ((f : Row) × (searchCall o t .0 ≡ accepted f)) ↔ NoneRefuses o t
   accepts-exactly = (λ h. accepts-told (h .0) (h .1), λ n. (told, is-accepted n))
 
   counts-left : NoneRefuses o t → searchCall o t .1 .undetected ≡ padded (length (t .undetected)) 0 (undetectedCounts o (choice o .polynomial))
@@ -121,15 +124,15 @@ module _ (o : Order) (t : SearchTables) where
         none-of-weight-0 = λ q c. subst (CountsUndetected o q 0) (none-undetected o (code n) q) (undetected-means-divided o q 0 (c .0));
       }
 
-  names-best : (f : Found) → searchCall o t .0 ≡ accepted f → NamesBest o t (searchCall o t .1) (f .polynomial) (f .shared)
+  names-best : (f : Row) → searchCall o t .0 ≡ accepted f → NamesBest o t (searchCall o t .1) (f .polynomial) (f .shared)
   names-best f same =
       let n = accepts-told f same in
       let is : told ≡ f = accepted-same (sym (is-accepted n) ∙ same) in
-      subst (λ (x : Found). NamesBest o t (searchCall o t .1) (x .polynomial) (x .shared)) is (names-choice n)
+      subst (λ (x : Row). NamesBest o t (searchCall o t .1) (x .polynomial) (x .shared)) is (names-choice n)
 
 pub demand-3 : (o : Order) (lent : SearchTables) → Promise o lent (searchCall o lent .0) (searchCall o lent .1)
 demand-3 o t = record { names-best = names-best o t; accepts-exactly = accepts-exactly o t }
 
 -- of what `search` answers and leaves: its contract is the premise
-pub search-promises : (order : OrderRecord) (lent left : SearchTables) (r : Searched) → (searchedAs r, left) ≡ searchCall (orderIn order) lent → Promise (orderIn order) lent (searchedAs r) left
-search-promises order lent left r e = subst (λ (x : Answer Found × SearchTables). Promise (orderIn order) lent (x .0) (x .1)) (sym e) (demand-3 (orderIn order) lent)
+pub search-promises : (order : OrderRecord) (lent left : SearchTables) (r : Answered) → (answeredAs r, left) ≡ searchCall (orderIn order) lent → Promise (orderIn order) lent (answeredAs r) left
+search-promises order lent left r e = subst (λ (x : Answer Row × SearchTables). Promise (orderIn order) lent (x .0) (x .1)) (sym e) (demand-3 (orderIn order) lent)

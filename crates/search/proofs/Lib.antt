@@ -1,4 +1,2 @@
-pub mod Answers
-pub mod Accepts
+pub mod Plans
 pub mod Demand
-pub mod Plains

@@ -13,7 +13,9 @@ use Rattle.events.specs.Events.{events}
 use Rattle.paths.specs.Paths.{paths, pathRoom}
 use Rattle.undetected.specs.Undetected.{undetectedCounts, CountsUndetected}
 use Rattle.choice.specs.Best.{IsCandidate, BestOf}
-use Rattle.search.specs.Calls.{Found, SearchTables, searchQuestions}
+use Rattle.row.specs.declared.Row.{Row}
+use Rattle.jobs.specs.Jobs.{SearchTables}
+use Rattle.search.specs.Calls.{searchQuestions}
 
 -- no question refuses
 pub record NoneRefuses (o : Order) (lent : SearchTables) : Type 0 where
@@ -32,6 +34,6 @@ pub record NamesBest (o : Order) (lent left : SearchTables) (p shared : ℕ) : T
   -- and no nonzero word that it divides weighs 0
   pub none-of-weight-0 : (q : ℕ) → IsCandidate (o .m) q → CountsUndetected o q 0 0
 
-pub record Promise (o : Order) (lent : SearchTables) (answer : Answer Found) (left : SearchTables) : Type 0 where
-  pub names-best : (f : Found) → answer ≡ accepted f → NamesBest o lent left (f .polynomial) (f .shared)
-  pub accepts-exactly : ((f : Found) × (answer ≡ accepted f)) ↔ NoneRefuses o lent
+pub record Promise (o : Order) (lent : SearchTables) (answer : Answer Row) (left : SearchTables) : Type 0 where
+  pub names-best : (f : Row) → answer ≡ accepted f → NamesBest o lent left (f .polynomial) (f .shared)
+  pub accepts-exactly : ((f : Row) × (answer ≡ accepted f)) ↔ NoneRefuses o lent

@@ -6,7 +6,6 @@ use native.Mathlib.Omega.{arith}
 use mathlib.Core.Path.{_≡_, sym, ap, ap₂, _∙_}
 use mathlib.Core.List.{List, [], _∷_}
 use borrow.Author.Tests.{lt-leb, le-leb}
-use lib.Dec.{leb}
 use lib.ListN.{length, replicate}
 use lib.Seq.{sets}
 use Rattle.lists.proofs.Stores.{sets-cleared}
@@ -17,27 +16,32 @@ use Rattle.order.specs.Answers.{orderIn}
 use Rattle.order.proofs.FirstNo.{firstNo-none, firstNo-yes, firstNo-no, first-yes, leaves-refused, leaves-answered}
 use Rattle.order.proofs.Asked.{room-told, length-orderIn}
 use Rattle.order.specs.declared.record.OrderRecord.{OrderRecord}
-use Rattle.text.specs.Calls.{textSize, laidOut, rowQuestions, refusalCall}
+use Rattle.text.specs.Calls.{textSize, laidOut, rowQuestions, refusalQuestions, refusalCall}
 use Rattle.lines.specs.Model.Steps.{Put}
-use Rattle.text.specs.Model.Steps.{RowAccepted}
+use Rattle.text.specs.Model.Steps.{RowAccepted, Laid}
 
-pub written-as : (k : ℕ) (text buffer : List ℕ) {m : ℕ} {cleared after : List ℕ} {end : ℕ} → 0 ≡ k → m ≤ length buffer → cleared ≡ replicate (length buffer) 0
-    → Put m cleared 0 text after end → _≡_ {A = Answer ℕ × List ℕ} (accepted end, after) (unlessRefused k buffer (laidOut text buffer))
+-- a text that was put into a cleared buffer
+pub laid-as : (text buffer : List ℕ) {m : ℕ} {cleared after : List ℕ} {end : ℕ} → m ≤ length buffer → cleared ≡ replicate (length buffer) 0
+    → Put m cleared 0 text after end → Laid text buffer after end
+laid-as text buffer h c p = record {
+  whole = p .stored ∙ ap (λ (l : List ℕ). sets l 0 text) c ∙ sets-cleared (length buffer) 0 text (omega (arith, p .short));
+  size = p .next ∙ zero-add (length text);
+}
+
+pub written-as : (k : ℕ) (text buffer : List ℕ) {after : List ℕ} {end : ℕ} → 0 ≡ k → Laid text buffer after end
+    → _≡_ {A = Answer ℕ × List ℕ} (accepted end, after) (unlessRefused k buffer (laidOut text buffer))
 unfolding laidOut
-written-as k text buffer e h c p =
-    ap₂ (λ (n : ℕ) (l : List ℕ). (accepted n, l)) (p .next ∙ zero-add (length text))
-    (p .stored ∙ ap (λ (l : List ℕ). sets l 0 text) c ∙ sets-cleared (length buffer) 0 text (omega (arith, p .short)))
-    ∙ leaves-answered buffer _ k e
+written-as k text buffer e l = ap₂ (λ (n : ℕ) (l : List ℕ). (accepted n, l)) (l .size) (l .whole) ∙ leaves-answered buffer _ k e
 
 -- ---- a refusal's questions
 
 pub refusal-no-room : (number : ℕ) (buffer : List ℕ) → length buffer < 4096 → _≡_ {A = Answer ℕ × List ℕ} (refused 10, buffer) (refusalCall number buffer)
-unfolding refusalCall textSize
+unfolding refusalCall refusalQuestions textSize
 refusal-no-room number buffer h =
     leaves-refused buffer _ 10 _ (sym (firstNo-no _ [] (lt-leb 4096 (length buffer) h))) (λ e. absurd (omega arith))
 
-pub refusal-room : (buffer : List ℕ) → 4096 ≤ length buffer → 0 ≡ firstNo ((10, leb textSize (length buffer)) ∷ [])
-unfolding textSize
+pub refusal-room : (buffer : List ℕ) → 4096 ≤ length buffer → 0 ≡ firstNo (refusalQuestions (length buffer))
+unfolding refusalQuestions textSize
 refusal-room buffer h = sym (firstNo-yes _ [] (le-leb 4096 (length buffer) h) ∙ firstNo-none)
 
 -- ---- a row's questions

@@ -70,11 +70,12 @@ module _ {M : Type 1} (𝓤 : URA M) (H : Heap 𝓤) (A : Atoms 𝓤) where
       (assoc′ 𝓤 (Pr (nth 𝓤 H A i Γ)) (Pr (joined (nths is (put 𝓤 H A i (‵ ftrue) Γ)))) (⋆ 𝓤 H A (blanks is (put 𝓤 H A i (‵ ftrue) Γ)))))
 
   -- one entry replaces what stands at i
-  replaces : (i : ℕ) (k : Item 𝓤) (Γ : List (Item 𝓤)) → ent 𝓤 (sep 𝓤 (Pr k) (⋆ 𝓤 H A Γ)) (⋆ 𝓤 H A (put 𝓤 H A i k Γ))
+  pub replaces : (i : ℕ) (k : Item 𝓤) (Γ : List (Item 𝓤)) → ent 𝓤 (sep 𝓤 (Pr k) (⋆ 𝓤 H A Γ)) (⋆ 𝓤 H A (put 𝓤 H A i k Γ))
   replaces i k Γ = via 𝓤 _ (monoR 𝓤 (Pr k) (via 𝓤 _ (pull 𝓤 H A i Γ) (snd∗ 𝓤 (Pr (nth 𝓤 H A i Γ)) (⋆ 𝓤 H A (del 𝓤 H A i Γ))))) (fill 𝓤 H A i k Γ)
 
   module _ (W : Given 𝓤 H A) where
-    both : (is : List ℕ) (i : ℕ) (k : Item 𝓤) (ps : List L.Par) (Γ : List (Item 𝓤)) → ent 𝓤 (sep 𝓤 (Pr (held 𝓤 ps)) (⋆ 𝓤 H A (put 𝓤 H A i k Γ))) (⋆ 𝓤 H A (puts is ps (put 𝓤 H A i k Γ))) → ent 𝓤 (sep 𝓤 (Pr (k ⊛ held 𝓤 ps)) (⋆ 𝓤 H A Γ)) (⋆ 𝓤 H A (puts is ps (put 𝓤 H A i k Γ)))
+    both : (is : List ℕ) (i : ℕ) (k : Item 𝓤) (ps : List L.Par) (Γ : List (Item 𝓤)) → ent 𝓤 (sep 𝓤 (Pr (held 𝓤 ps)) (⋆ 𝓤 H A (put 𝓤 H A i k Γ))) (⋆ 𝓤 H A (puts is ps (put 𝓤 H A i k Γ)))
+        → ent 𝓤 (sep 𝓤 (Pr (k ⊛ held 𝓤 ps)) (⋆ 𝓤 H A Γ)) (⋆ 𝓤 H A (puts is ps (put 𝓤 H A i k Γ)))
     both is i k ps Γ more = qed W ((k ⊛ held 𝓤 ps) ∷ raw (⋆ 𝓤 H A Γ) ∷ []) ∵ split ! $ move ! (0 ∷ 2 ∷ []) $ use2 W (raw (⋆ 𝓤 H A (put 𝓤 H A i k Γ))) (replaces i k Γ) $ move ! (1 ∷ 0 ∷ []) $ by ! more
 
     pub gives-back : (is : List ℕ) (ps : List L.Par) (Γ : List (Item 𝓤)) → ent 𝓤 (sep 𝓤 (Pr (held 𝓤 ps)) (⋆ 𝓤 H A Γ)) (⋆ 𝓤 H A (puts is ps Γ))
@@ -131,7 +132,8 @@ module _ {M : Type 1} {𝓤 : URA M} {H : Heap 𝓤} {A : Atoms 𝓤} {K : Type 
       at-front (passes-all t (‵ (fat fullShare τ (bs .0) 0 v) ∷ ‵ (fdies τ (bs .0)) ∷ Γ) ls (bs .1) vs (ok .1) {g = g}
       (by t (via 𝓤 _ (behind 𝓤 H A (‵ (fat fullShare τ (bs .0) 0 v)) (‵ (fdies τ (bs .0))) Γ (cells 𝓤 H A ls (bs .1) (set vs))) (s .prf))))
     where
-      at-front : Seq K W (‵ (fat fullShare τ (bs .0) 0 v) ∷ ‵ (fdies τ (bs .0)) ∷ Γ ++ cells 𝓤 H A ls (bs .1) []) (passes (envOf 𝓤 H A ls (bs .1)) vs g) → Seq K W (Γ ++ ‵ (froom τ (bs .0) 0) ∷ ‵ (fdies τ (bs .0)) ∷ cells 𝓤 H A ls (bs .1) []) (passes ((τ, bs .0) ∷ envOf 𝓤 H A ls (bs .1)) (v ∷ vs) g)
+      at-front : Seq K W (‵ (fat fullShare τ (bs .0) 0 v) ∷ ‵ (fdies τ (bs .0)) ∷ Γ ++ cells 𝓤 H A ls (bs .1) []) (passes (envOf 𝓤 H A ls (bs .1)) vs g)
+          → Seq K W (Γ ++ ‵ (froom τ (bs .0) 0) ∷ ‵ (fdies τ (bs .0)) ∷ cells 𝓤 H A ls (bs .1) []) (passes ((τ, bs .0) ∷ envOf 𝓤 H A ls (bs .1)) (v ∷ vs) g)
       at-front u =
           let stored : Seq K W (‵ (froom τ (bs .0) 0) ∷ ‵ (fdies τ (bs .0)) ∷ Γ ++ cells 𝓤 H A ls (bs .1) []) (passes ((τ, bs .0) ∷ envOf 𝓤 H A ls (bs .1)) (v ∷ vs) g) = pass1 t (init t 0 refl (ok .0)) $ u in
           by t (via 𝓤 _ (before 𝓤 H A (‵ (froom τ (bs .0) 0)) (‵ (fdies τ (bs .0))) Γ (cells 𝓤 H A ls (bs .1) [])) (stored .prf))

@@ -2,10 +2,12 @@ pub mod Walk
 pub mod Again
 pub mod Hold
 pub mod Loans
+pub mod Over
 pub mod Types
 pub mod Parameters
 pub mod Entries
 pub mod Calls
+pub mod Passing
 pub mod Ends
 pub mod Local
 pub mod Frame

@@ -181,7 +181,8 @@ module _ {M : Type 1} (𝓤 : URA M) (H : Heap 𝓤) (A : Atoms 𝓤) (W : Given
       move ! (4 ∷ 2 ∷ 1 ∷ []) $ use3 W (later (given (Same ps (z .1)) (held 𝓤 (after ps (z .1))))) (returned-all ps fit xs (z .1)) $ await ! tt $ learn ! (λ p.
       move ! (1 ∷ 2 ∷ []) $ join ! $ join ! $ at-once ! $ check ! (tt, p) $ done !)
   returned-all (mut R κ q b o n γ l ∷ ps) fit xs z =
-      qed W ((‵ (flft (xs .0 .0 ∷ []) fullShare) ⊛ tokens 𝓤 (lent ps (xs .1))) ∷ ‵ (fsep (fsep (finally R (xs .0 .1) (z .0)) (feq ℕ (length (z .0)) (length l))) (lefts ps (xs .1) (z .1))) ∷ (‵ (LentAgain R κ (xs .0 .0 ∷ []) q γ b o (xs .0 .1) l) ⊛ kept 𝓤 ps (xs .1)) ∷ []) ∵ updating ! $
+      qed W ((‵ (flft (xs .0 .0 ∷ []) fullShare) ⊛ tokens 𝓤 (lent ps (xs .1))) ∷ ‵ (fsep (fsep (finally R (xs .0 .1) (z .0)) (feq ℕ (length (z .0)) (length l))) (lefts ps (xs .1) (z .1))) ∷
+      (‵ (LentAgain R κ (xs .0 .0 ∷ []) q γ b o (xs .0 .1) l) ⊛ kept 𝓤 ps (xs .1)) ∷ []) ∵ updating ! $
       split ! $ move ! (2 ∷ []) $ fsplit ! $ fsplit ! $ move ! (1 ∷ []) $ feqL ! (λ e. move ! (4 ∷ []) $ split ! $
       -- [what is kept of the slice, and of the others; what is said of it, and of them; ν; their tokens]
       move ! (5 ∷ 3 ∷ 1 ∷ []) $ use3 W (later (given (Same ps (z .1)) (held 𝓤 (after ps (z .1))))) (returned-all ps (fit .1) (xs .1) (z .1)) $ await ! tt $ learn ! (λ p.

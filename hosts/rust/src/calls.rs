@@ -1,12 +1,14 @@
 //! Every call of the archive, as include/dohvrin.h declares it, behind a safe
-//! function that takes slices and hands back the whole answer. How a call is
-//! called is written in this file alone, and all unsafe code is here.
+//! function that takes slices and hands back the whole answer. The table at the
+//! end has a line for each, of which both its declaration and its function are
+//! made. How a call is called is written in this file alone, and all unsafe code
+//! is here.
 //!
 //! SAFETY, of every call: it takes any numbers. Pointers and counts are those
 //! of slices; what is written is borrowed alone, so that it overlaps nothing
 //! else and no one else has it meanwhile.
 
-use crate::{halves, Found, Lent};
+use crate::halves;
 
 /// `struct dohvrin_answer`.
 #[repr(C)]
@@ -30,7 +32,7 @@ pub struct AnyOrder {
     pub bits: u64,
     pub m: u64,
     pub d: u64,
-    /// `g1` to `g4`; those past the n-th are not looked at.
+    /// Those past the n-th are not looked at.
     pub generators: [u64; 4],
 }
 
@@ -53,23 +55,21 @@ pub struct Event {
     pub high: u64,
 }
 
-/// `struct dohvrin_listing`.
+/// `struct dohvrin_row`: what a row says beside its order and the counts. What a
+/// call does not tell is 0.
 #[repr(C)]
 #[derive(Clone, Copy, Debug, Default, PartialEq, Eq)]
-pub struct Listing {
+pub struct RowAnswer {
+    /// The number of the question that said no, or 0.
     pub refusal: u64,
+    /// How many events, for the length of the row.
     pub events: u64,
+    /// How many paths.
     pub paths: u64,
-}
-
-/// `struct dohvrin_row`.
-#[repr(C)]
-#[derive(Clone, Copy, Debug, Default, PartialEq, Eq)]
-pub struct Row {
-    pub refusal: u64,
-    pub events: u64,
-    pub paths: u64,
+    /// The best polynomial, or the one that was given.
     pub polynomial: u64,
+    /// How many polynomials have its counts, it among them: 1 or more where it
+    /// is the best. 0: nobody was compared with it.
     pub shared: u64,
 }
 
@@ -86,224 +86,79 @@ const _: () = assert!(std::mem::size_of::<Answer>() == 32);
 const _: () = assert!(std::mem::size_of::<AnyOrder>() == 80);
 const _: () = assert!(std::mem::size_of::<OrderAnswer>() == 88);
 const _: () = assert!(std::mem::size_of::<Event>() == 40);
-const _: () = assert!(std::mem::size_of::<Listing>() == 24);
-const _: () = assert!(std::mem::size_of::<Row>() == 40);
+const _: () = assert!(std::mem::size_of::<RowAnswer>() == 40);
 const _: () = assert!(std::mem::size_of::<Part>() == 24);
 
-/// A call that takes all five tables, after what else it takes.
-macro_rules! in_tables {
-    ($lent:ident, $call:ident, $($argument:expr),+) => {
-        unsafe {
-            $call(
-                $($argument,)+
-                $lent.events.as_mut_ptr(),
-                $lent.events.len(),
-                $lent.paths.as_mut_ptr(),
-                $lent.paths.len(),
-                $lent.plain.as_mut_ptr(),
-                $lent.plain.len(),
-                $lent.undetected.as_mut_ptr(),
-                $lent.undetected.len(),
-                $lent.work.as_mut_ptr(),
-                $lent.work.len(),
-            )
+/// Of each line `dohvrin_call = function(parameters) -> answer;` the function.
+macro_rules! calls {
+    ($($call:ident = $function:ident($($parameters:tt)*) -> $answer:ident;)+) => {
+        $(call! { [$call $function $answer] [] [] [] $($parameters)*, })+
+    };
+}
+
+/// One function, with the declaration in it. Each parameter in turn is added to
+/// what the function takes, what is declared, and what is passed: a word as its
+/// halves, a slice as pointer and count, any other as it is.
+macro_rules! call {
+    ([$call:ident $function:ident $answer:ident] [$($takes:tt)*] [$($declared:tt)*] [$($passed:tt)*]) => {
+        pub fn $function($($takes)*) -> $answer {
+            extern "C" {
+                fn $call($($declared)*) -> $answer;
+            }
+            unsafe { $call($($passed)*) }
+        }
+    };
+    ($call:tt [$($takes:tt)*] [$($declared:tt)*] [$($passed:tt)*] $name:ident: u128, $($rest:tt)*) => {
+        call! {
+            $call
+            [$($takes)* $name: u128,]
+            [$($declared)* low: u64, high: u64,]
+            [$($passed)* halves($name).0, halves($name).1,]
+            $($rest)*
+        }
+    };
+    ($call:tt [$($takes:tt)*] [$($declared:tt)*] [$($passed:tt)*] $name:ident: &[$entry:ty], $($rest:tt)*) => {
+        call! {
+            $call
+            [$($takes)* $name: &[$entry],]
+            [$($declared)* $name: *const $entry, _: usize,]
+            [$($passed)* $name.as_ptr(), $name.len(),]
+            $($rest)*
+        }
+    };
+    ($call:tt [$($takes:tt)*] [$($declared:tt)*] [$($passed:tt)*] $name:ident: &mut [$entry:ty], $($rest:tt)*) => {
+        call! {
+            $call
+            [$($takes)* $name: &mut [$entry],]
+            [$($declared)* $name: *mut $entry, _: usize,]
+            [$($passed)* $name.as_mut_ptr(), $name.len(),]
+            $($rest)*
+        }
+    };
+    ($call:tt [$($takes:tt)*] [$($declared:tt)*] [$($passed:tt)*] $name:ident: $value:ty, $($rest:tt)*) => {
+        call! {
+            $call
+            [$($takes)* $name: $value,]
+            [$($declared)* $name: $value,]
+            [$($passed)* $name,]
+            $($rest)*
         }
     };
 }
 
-pub fn append(bits: u64, m: u64, polynomial: u64, message: u128) -> Answer {
-    let (low, high) = halves(message);
-    unsafe { dohvrin_append(bits, m, polynomial, low, high) }
-}
-
-pub fn strip(bits: u64, m: u64, polynomial: u64, word: u128) -> Answer {
-    let (low, high) = halves(word);
-    unsafe { dohvrin_strip(bits, m, polynomial, low, high) }
-}
-
-pub fn test(bits: u64, m: u64, polynomial: u64, word: u128) -> Answer {
-    let (low, high) = halves(word);
-    unsafe { dohvrin_test(bits, m, polynomial, low, high) }
-}
-
-pub fn weigh(order: AnyOrder, word: u128) -> Answer {
-    let (low, high) = halves(word);
-    unsafe { dohvrin_weigh(order, low, high) }
-}
-
-pub fn encode(order: AnyOrder, word: u128, output: &mut [u8]) -> u64 {
-    let (low, high) = halves(word);
-    unsafe { dohvrin_encode(order, low, high, output.as_mut_ptr(), output.len()) }
-}
-
-pub fn collect(order: AnyOrder, events: &mut [Event], work: &mut [u64]) -> Answer {
-    unsafe {
-        dohvrin_collect(
-            order,
-            events.as_mut_ptr(),
-            events.len(),
-            work.as_mut_ptr(),
-            work.len(),
-        )
-    }
-}
-
-pub fn list(
-    order: AnyOrder,
-    events: &mut [Event],
-    paths: &mut [u64],
-    plain: &mut [u64],
-    work: &mut [u64],
-) -> Listing {
-    unsafe {
-        dohvrin_list(
-            order,
-            events.as_mut_ptr(),
-            events.len(),
-            paths.as_mut_ptr(),
-            paths.len(),
-            plain.as_mut_ptr(),
-            plain.len(),
-            work.as_mut_ptr(),
-            work.len(),
-        )
-    }
-}
-
-pub fn part(paths: &[u64], counts: &[u64], weight: u64) -> Part {
-    let (table, numbers) = (paths.as_ptr(), paths.len());
-    unsafe { dohvrin_part(table, numbers, counts.as_ptr(), counts.len(), weight) }
-}
-
-pub fn search(order: AnyOrder, lent: Lent) -> Row {
-    in_tables!(lent, dohvrin_search, order)
-}
-
-pub fn quote(order: AnyOrder, bits: u64, lent: Lent) -> Row {
-    in_tables!(lent, dohvrin_quote, order, bits)
-}
-
-pub fn count(order: AnyOrder, polynomial: u64, lent: Lent) -> Listing {
-    in_tables!(lent, dohvrin_count, order, polynomial)
-}
-
-pub fn row_text(
-    order: AnyOrder,
-    found: Found,
-    plain: &[u64],
-    undetected: &[u64],
-    text: &mut [u8],
-) -> Answer {
-    unsafe {
-        dohvrin_row_text(
-            order,
-            found.events as u64,
-            found.paths as u64,
-            found.polynomial,
-            found.shared,
-            plain.as_ptr(),
-            plain.len(),
-            undetected.as_ptr(),
-            undetected.len(),
-            text.as_mut_ptr(),
-            text.len(),
-        )
-    }
-}
-
-pub fn refusal_text(number: u64, text: &mut [u8]) -> Answer {
-    unsafe { dohvrin_refusal_text(number, text.as_mut_ptr(), text.len()) }
-}
-
-pub fn read_order(bytes: &[u8]) -> OrderAnswer {
-    unsafe { dohvrin_read_order(bytes.as_ptr(), bytes.len()) }
-}
-
-extern "C" {
-    fn dohvrin_append(bits: u64, m: u64, polynomial: u64, low: u64, high: u64) -> Answer;
-    fn dohvrin_strip(bits: u64, m: u64, polynomial: u64, low: u64, high: u64) -> Answer;
-    fn dohvrin_test(bits: u64, m: u64, polynomial: u64, low: u64, high: u64) -> Answer;
-    fn dohvrin_weigh(order: AnyOrder, low: u64, high: u64) -> Answer;
-    fn dohvrin_encode(order: AnyOrder, low: u64, high: u64, output: *mut u8, size: usize) -> u64;
-    fn dohvrin_collect(
-        order: AnyOrder,
-        events: *mut Event,
-        event_entries: usize,
-        work: *mut u64,
-        work_numbers: usize,
-    ) -> Answer;
-    fn dohvrin_list(
-        order: AnyOrder,
-        events: *mut Event,
-        event_entries: usize,
-        paths: *mut u64,
-        path_numbers: usize,
-        plain: *mut u64,
-        plain_entries: usize,
-        work: *mut u64,
-        work_numbers: usize,
-    ) -> Listing;
-    fn dohvrin_part(
-        paths: *const u64,
-        path_numbers: usize,
-        counts: *const u64,
-        count_entries: usize,
-        weight: u64,
-    ) -> Part;
-    fn dohvrin_search(
-        order: AnyOrder,
-        events: *mut Event,
-        event_entries: usize,
-        paths: *mut u64,
-        path_numbers: usize,
-        plain: *mut u64,
-        plain_entries: usize,
-        undetected: *mut u64,
-        undetected_entries: usize,
-        work: *mut u64,
-        work_numbers: usize,
-    ) -> Row;
-    fn dohvrin_quote(
-        order: AnyOrder,
-        bits: u64,
-        events: *mut Event,
-        event_entries: usize,
-        paths: *mut u64,
-        path_numbers: usize,
-        plain: *mut u64,
-        plain_entries: usize,
-        undetected: *mut u64,
-        undetected_entries: usize,
-        work: *mut u64,
-        work_numbers: usize,
-    ) -> Row;
-    fn dohvrin_count(
-        order: AnyOrder,
-        polynomial: u64,
-        events: *mut Event,
-        event_entries: usize,
-        paths: *mut u64,
-        path_numbers: usize,
-        plain: *mut u64,
-        plain_entries: usize,
-        undetected: *mut u64,
-        undetected_entries: usize,
-        work: *mut u64,
-        work_numbers: usize,
-    ) -> Listing;
-    fn dohvrin_row_text(
-        order: AnyOrder,
-        events: u64,
-        paths: u64,
-        polynomial: u64,
-        shared: u64,
-        plain: *const u64,
-        plain_entries: usize,
-        undetected: *const u64,
-        undetected_entries: usize,
-        text: *mut u8,
-        size: usize,
-    ) -> Answer;
-    fn dohvrin_refusal_text(number: u64, text: *mut u8, size: usize) -> Answer;
-    fn dohvrin_read_order(bytes: *const u8, size: usize) -> OrderAnswer;
+calls! {
+    dohvrin_append = append(bits: u64, m: u64, polynomial: u64, message: u128) -> Answer;
+    dohvrin_strip = strip(bits: u64, m: u64, polynomial: u64, word: u128) -> Answer;
+    dohvrin_test = test(bits: u64, m: u64, polynomial: u64, word: u128) -> Answer;
+    dohvrin_weigh = weigh(order: AnyOrder, word: u128) -> Answer;
+    dohvrin_encode = encode(order: AnyOrder, word: u128, output: &mut [u8]) -> u64;
+    dohvrin_collect = collect(order: AnyOrder, events: &mut [Event], work: &mut [u64]) -> RowAnswer;
+    dohvrin_list = list(order: AnyOrder, events: &mut [Event], paths: &mut [u64], plain: &mut [u64], work: &mut [u64]) -> RowAnswer;
+    dohvrin_search = search(order: AnyOrder, events: &mut [Event], paths: &mut [u64], plain: &mut [u64], undetected: &mut [u64], work: &mut [u64]) -> RowAnswer;
+    dohvrin_quote = quote(order: AnyOrder, bits: u64, events: &mut [Event], paths: &mut [u64], plain: &mut [u64], undetected: &mut [u64], work: &mut [u64]) -> RowAnswer;
+    dohvrin_count = count(order: AnyOrder, polynomial: u64, events: &mut [Event], paths: &mut [u64], plain: &mut [u64], undetected: &mut [u64], work: &mut [u64]) -> RowAnswer;
+    dohvrin_part = part(table: &[u64], counts: &[u64], w: u64) -> Part;
+    dohvrin_row_text = row_text(order: AnyOrder, row: RowAnswer, plain: &[u64], undetected: &[u64], text: &mut [u8]) -> Answer;
+    dohvrin_refusal_text = refusal_text(number: u64, text: &mut [u8]) -> Answer;
+    dohvrin_read_order = read_order(bytes: &[u8]) -> OrderAnswer;
 }

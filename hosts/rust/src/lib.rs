@@ -42,7 +42,7 @@
 //!
 //! let order = AnyOrder::new(&[1, 3], 1, 3, 2, 5);
 //! let (mut table, mut work) = ([Event::default(); 6], vec![0; WORK]);
-//! assert_eq!(collect(order, &mut table, &mut work), Ok(4));
+//! assert_eq!(collect(order, &mut table, &mut work).unwrap().events, 4);
 //! let listed = table.map(|e| (e.state, e.length, e.weight, e.input()));
 //! assert_eq!(listed[..4], [(0, 1, 0, 0), (0, 2, 3, 1), (0, 3, 4, 3), (1, 1, 1, 1)]);
 //! assert_eq!(listed[4..], [(0, 0, 0, 0); 2]);
@@ -54,13 +54,13 @@
 //! its entry w - 1. `part` finds the words of one weight again:
 //!
 //! ```
-//! use dohvrin::{list, part, words, AnyOrder, Event, Listed, Refusal, WORK};
+//! use dohvrin::{list, part, words, AnyOrder, Event, Refusal, WORK};
 //!
 //! let order = AnyOrder::new(&[1, 3], 1, 4, 2, 7);
 //! let (mut events, mut work) = ([Event::default(); 5], vec![0; WORK]);
 //! let (mut paths, mut counts) = ([0; 30], [0; 6]);
-//! let listed = list(order, &mut events, &mut paths, &mut counts, &mut work);
-//! assert_eq!(listed, Ok(Listed { events: 5, paths: 15 }));
+//! let row = list(order, &mut events, &mut paths, &mut counts, &mut work).unwrap();
+//! assert_eq!((row.events, row.paths), (5, 15));
 //! assert_eq!(counts, [0, 0, 4, 5, 4, 2]);
 //! let heaviest: Vec<u128> = words(part(&paths, &counts, 6).unwrap()).collect();
 //! assert_eq!(heaviest, [5, 10]);
@@ -69,12 +69,12 @@
 //! ```
 //!
 //! The search takes the same tables and one more list of counts, those of the
-//! words that pass the check unseen, and `row_text` writes what it found. Of
+//! words that pass the check unseen, and `row_text` writes what it answered. Of
 //! several polynomials with the best counts it finds the smallest number, and
 //! `shared` says how many they are:
 //!
 //! ```
-//! use dohvrin::{row_text, search, AnyOrder, Event, Found, Lent, TEXT, WORK};
+//! use dohvrin::{row_text, search, AnyOrder, Event, Lent, TEXT, WORK};
 //!
 //! let order = AnyOrder::new(&[1, 3], 1, 4, 2, 6);
 //! let (mut events, mut paths, mut work) = ([Event::default(); 5], [0; 30], vec![0; WORK]);
@@ -86,10 +86,10 @@
 //!     undetected: &mut undetected,
 //!     work: &mut work,
 //! };
-//! let found = Found { events: 5, paths: 13, polynomial: 0x5, shared: 1 };
-//! assert_eq!(search(order, lent), Ok(found));
+//! let row = search(order, lent).unwrap();
+//! assert_eq!((row.polynomial, row.shared), (0x5, 1));
 //! assert_eq!(undetected, [0, 0, 0, 1, 0, 0]);
-//! let size = row_text(order, found, &plain, &undetected, &mut text).unwrap();
+//! let size = row_text(order, row, &plain, &undetected, &mut text).unwrap();
 //! assert!(text[..size].starts_with(b"ORDER 2 1 4 2 6 1 3\nEVENTS 5\nPATHS 13\nA 1 0 0\n"));
 //! assert!(text[..size].ends_with(b"A 5 4 0\nCRC 0x5 1\n"));
 //! ```
@@ -107,14 +107,14 @@ mod search;
 mod tables;
 mod word;
 
-pub use calls::{AnyOrder, Event};
+pub use calls::{AnyOrder, Event, RowAnswer};
 pub use entries::{Entries, NoRoom};
 pub use link::Link;
-pub use listing::{collect, list, part, words, Listed, COUNTS, WORK};
+pub use listing::{collect, list, part, words, COUNTS, WORK};
 pub use order::Order;
 pub use quote::Quote;
 pub use refusal::Refusal;
 pub use row::Row;
-pub use search::{count, quote, refusal_text, row_text, search, Found, Lent, TEXT};
+pub use search::{count, quote, refusal_text, row_text, search, Lent, TEXT};
 pub use tables::Tables;
 pub use word::{append, encode, halves, joined, strip, test, weigh, Stripped};

@@ -1,7 +1,7 @@
 //! Error events and paths, in tables that the caller lends.
 
 use crate::refusal::accepted;
-use crate::{calls, joined, AnyOrder, Event, Refusal};
+use crate::{calls, joined, AnyOrder, Event, Refusal, RowAnswer};
 
 /// The least numbers of a work area.
 pub const WORK: usize = 8192;
@@ -10,29 +10,22 @@ pub const WORK: usize = 8192;
 /// weights from 1 to 63.
 pub const COUNTS: usize = 63;
 
-/// What a listing leaves in its tables.
-#[derive(Clone, Copy, Debug, PartialEq, Eq)]
-pub struct Listed {
-    /// How many events.
-    pub events: usize,
-    /// How many paths.
-    pub paths: usize,
-}
-
 /// The error events of weight below d, at most N steps long, or on a terminated
-/// link those of state 0 alone, at most N+v steps long: how many. The table has them first, by state, length and input number, and zero records
-/// after them; the work area, of `WORK` numbers at least, is zeros. Refusal 13,
-/// more events than entries, leaves zeros in both; another refusal leaves both
-/// as they were. The order's m is not asked about.
-pub fn collect(order: AnyOrder, events: &mut [Event], work: &mut [u64]) -> Result<usize, Refusal> {
-    let answer = calls::collect(order, events, work);
-    accepted(answer.refusal)?;
-    // Not more than the table's entries.
-    Ok(answer.value as usize)
+/// link those of state 0 alone, at most N+v steps long: how many, and nothing
+/// else, is told. The table has them first, by state, length and input number, and
+/// zero records after them; the work area, of `WORK` numbers at least, is zeros.
+/// Refusal 13, more events than entries, leaves zeros in both; another refusal
+/// leaves both as they were. The order's m is not asked about.
+pub fn collect(
+    order: AnyOrder,
+    events: &mut [Event],
+    work: &mut [u64],
+) -> Result<RowAnswer, Refusal> {
+    calls::collect(order, events, work).accepted()
 }
 
 /// The paths of weight below d, nonzero words of N bits, with the events that
-/// they are joined of: how many there are of both. The path table has two
+/// they are joined of: how many there are of both is told. The path table has two
 /// numbers for each path, its low half first, ordered by weight and number, and
 /// zeros after them; `plain` says how many paths there are of each weight from
 /// 1 to d - 1, with zeros after them; the event table is as `collect` leaves it;
@@ -46,18 +39,8 @@ pub fn list(
     paths: &mut [u64],
     plain: &mut [u64],
     work: &mut [u64],
-) -> Result<Listed, Refusal> {
-    listed(calls::list(order, events, paths, plain, work))
-}
-
-/// What a call that lists answers.
-pub(crate) fn listed(answer: calls::Listing) -> Result<Listed, Refusal> {
-    accepted(answer.refusal)?;
-    // Not more than the tables take.
-    Ok(Listed {
-        events: answer.events as usize,
-        paths: answer.paths as usize,
-    })
+) -> Result<RowAnswer, Refusal> {
+    calls::list(order, events, paths, plain, work).accepted()
 }
 
 /// The words of one weight in a path table, two numbers each, by the counts of

@@ -1,5 +1,6 @@
 //! Why a call has no result: the first of document 01's questions that says no.
 
+use crate::RowAnswer;
 use std::error::Error;
 use std::fmt;
 
@@ -108,6 +109,13 @@ pub(crate) fn accepted(refusal: u64) -> Result<(), Refusal> {
     match refusal {
         0 => Ok(()),
         number => Err(Refusal::of(number).expect("the library refuses by a question")),
+    }
+}
+
+impl RowAnswer {
+    /// The answer, which has no refusal, or the refusal as an error.
+    pub(crate) fn accepted(self) -> Result<RowAnswer, Refusal> {
+        accepted(self.refusal).map(|()| self)
     }
 }
 

@@ -1,6 +1,6 @@
 //! A row, and the text of a row or a refusal.
 
-use crate::{refusal_text, row_text, Found, Order, Refusal, TEXT};
+use crate::{refusal_text, row_text, Order, Refusal, RowAnswer, TEXT};
 
 /// What an order's row says. Only the tables make one.
 ///
@@ -15,7 +15,7 @@ use crate::{refusal_text, row_text, Found, Order, Refusal, TEXT};
 #[derive(Clone, Debug, PartialEq, Eq)]
 pub struct Row {
     pub(crate) order: Order,
-    pub(crate) found: Found,
+    pub(crate) answer: RowAnswer,
     pub(crate) plain: Vec<u64>,
     pub(crate) undetected: Vec<u64>,
 }
@@ -28,23 +28,25 @@ impl Row {
 
     /// How many events were listed.
     pub fn events(&self) -> usize {
-        self.found.events
+        // Not more than the table takes.
+        self.answer.events as usize
     }
 
     /// How many paths were listed.
     pub fn paths(&self) -> usize {
-        self.found.paths
+        // Not more than the table takes.
+        self.answer.paths as usize
     }
 
     /// The best polynomial, or the one that was given.
     pub fn polynomial(&self) -> u64 {
-        self.found.polynomial
+        self.answer.polynomial
     }
 
     /// How many polynomials have its counts, it among them. 0: the polynomial was
     /// given, and nobody was compared with it.
     pub fn shared(&self) -> u64 {
-        self.found.shared
+        self.answer.shared
     }
 
     /// How many paths have each weight from 1 to d - 1: entry w - 1 is weight w.
@@ -67,9 +69,9 @@ impl Row {
 
     /// The lines that `dso` prints.
     pub fn text(&self) -> String {
-        let (order, found) = (self.order.any(), self.found);
+        let (order, answer) = (self.order.any(), self.answer);
         let (plain, undetected) = (&self.plain, &self.undetected);
-        written(|buffer| row_text(order, found, plain, undetected, buffer))
+        written(|buffer| row_text(order, answer, plain, undetected, buffer))
     }
 }
 

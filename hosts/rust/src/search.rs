@@ -1,9 +1,8 @@
 //! The search for the best polynomial, of an order or of a shorter length, the
 //! counts of one, and their texts.
 
-use crate::listing::listed;
 use crate::refusal::accepted;
-use crate::{calls, AnyOrder, Event, Listed, Refusal};
+use crate::{calls, AnyOrder, Event, Refusal, RowAnswer};
 
 /// The least bytes of a text buffer; no text has more.
 pub const TEXT: usize = 4096;
@@ -34,20 +33,38 @@ impl Lent<'_> {
             work: &mut [],
         }
     }
-}
 
-/// What a row says beside its order and the counts.
-#[derive(Clone, Copy, Debug, PartialEq, Eq)]
-pub struct Found {
-    /// How many events, for the length of the row.
-    pub events: usize,
-    /// How many paths.
-    pub paths: usize,
-    /// The best polynomial, or the one that was given.
-    pub polynomial: u64,
-    /// How many polynomials have its counts, it among them: 1 or more where it
-    /// is the best. 0: the polynomial was given, and nobody was compared with it.
-    pub shared: u64,
+    /// The whole answer of `calls::search` with these.
+    pub fn search(self, order: AnyOrder) -> RowAnswer {
+        let (plain, undetected) = (self.plain, self.undetected);
+        calls::search(order, self.events, self.paths, plain, undetected, self.work)
+    }
+
+    /// The same of `calls::quote`.
+    pub fn quote(self, order: AnyOrder, bits: u64) -> RowAnswer {
+        calls::quote(
+            order,
+            bits,
+            self.events,
+            self.paths,
+            self.plain,
+            self.undetected,
+            self.work,
+        )
+    }
+
+    /// The same of `calls::count`.
+    pub fn count(self, order: AnyOrder, polynomial: u64) -> RowAnswer {
+        calls::count(
+            order,
+            polynomial,
+            self.events,
+            self.paths,
+            self.plain,
+            self.undetected,
+            self.work,
+        )
+    }
 }
 
 /// The best check polynomial of degree m, by the paths of weight below d: the
@@ -55,8 +72,8 @@ pub struct Found {
 /// `list` leaves them; `undetected` says how many paths of each weight from 1 to
 /// d - 1 pass the check of the polynomial, with zeros after them. Refusals 13 and
 /// 14 leave zeros in all five; another refusal leaves all five as they were.
-pub fn search(order: AnyOrder, lent: Lent) -> Result<Found, Refusal> {
-    found(calls::search(order, lent))
+pub fn search(order: AnyOrder, lent: Lent) -> Result<RowAnswer, Refusal> {
+    lent.search(order).accepted()
 }
 
 /// The same for the shorter length `bits`, from the events of a tail-biting
@@ -65,7 +82,7 @@ pub fn search(order: AnyOrder, lent: Lent) -> Result<Found, Refusal> {
 /// about N, 14 is about `bits`.
 ///
 /// ```
-/// use dohvrin::{quote, AnyOrder, Event, Found, Lent, WORK};
+/// use dohvrin::{quote, AnyOrder, Event, Lent, WORK};
 ///
 /// let order = AnyOrder::new(&[1, 3], 1, 4, 2, 6);
 /// let (mut events, mut paths, mut work) = ([Event::default(); 5], [0; 14], vec![0; WORK]);
@@ -77,46 +94,37 @@ pub fn search(order: AnyOrder, lent: Lent) -> Result<Found, Refusal> {
 ///     undetected: &mut undetected,
 ///     work: &mut work,
 /// };
-/// let found = Found { events: 4, paths: 7, polynomial: 0x5, shared: 1 };
-/// assert_eq!(quote(order, 3, lent), Ok(found));
+/// let row = quote(order, 3, lent).unwrap();
+/// assert_eq!((row.events, row.paths), (4, 7));
+/// assert_eq!((row.polynomial, row.shared), (0x5, 1));
 /// assert_eq!(events.map(|event| event.length), [1, 2, 3, 4, 1]);
 /// assert_eq!(plain, [0, 0, 4, 3, 0]);
 /// ```
-pub fn quote(order: AnyOrder, bits: u64, lent: Lent) -> Result<Found, Refusal> {
-    found(calls::quote(order, bits, lent))
-}
-
-/// What a call that searches answers.
-fn found(answer: calls::Row) -> Result<Found, Refusal> {
-    accepted(answer.refusal)?;
-    // Not more than the tables take.
-    Ok(Found {
-        events: answer.events as usize,
-        paths: answer.paths as usize,
-        polynomial: answer.polynomial,
-        shared: answer.shared,
-    })
+pub fn quote(order: AnyOrder, bits: u64, lent: Lent) -> Result<RowAnswer, Refusal> {
+    lent.quote(order, bits).accepted()
 }
 
 /// The undetected counts of one polynomial, which question 11 asks for degree m
-/// and constant term 1; all tables are left as `search` leaves them.
-pub fn count(order: AnyOrder, polynomial: u64, lent: Lent) -> Result<Listed, Refusal> {
-    listed(calls::count(order, polynomial, lent))
+/// and constant term 1; all tables are left as `search` leaves them. The answer
+/// has that polynomial, and `shared` is 0.
+pub fn count(order: AnyOrder, polynomial: u64, lent: Lent) -> Result<RowAnswer, Refusal> {
+    lent.count(order, polynomial).accepted()
 }
 
 /// The text of a row, as `dso` prints it, of any numbers: how many bytes of the
 /// buffer it takes, with zeros after them. The text does not say the kind of
 /// link. Only the version (2), the number of generators (3), d (7), and the sizes
 /// are asked for (10: fewer counts than the d - 1 of the weights from 1, a buffer
-/// below `TEXT`); a refusal leaves the buffer as it was.
+/// below `TEXT`); a refusal leaves the buffer as it was. Of an answer with a
+/// refusal in it the text is that of the refusal, and only the buffer is asked for.
 pub fn row_text(
     order: AnyOrder,
-    found: Found,
+    row: RowAnswer,
     plain: &[u64],
     undetected: &[u64],
     text: &mut [u8],
 ) -> Result<usize, Refusal> {
-    let answer = calls::row_text(order, found, plain, undetected, text);
+    let answer = calls::row_text(order, row, plain, undetected, text);
     accepted(answer.refusal)?;
     // Not more than the buffer has.
     Ok(answer.value as usize)

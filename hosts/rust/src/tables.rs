@@ -1,7 +1,7 @@
 //! The tables that a search needs, owned.
 
 use crate::{count, part, quote, search, words};
-use crate::{Entries, Event, Found, Lent, NoRoom, Order, Quote, Refusal, Row};
+use crate::{Entries, Event, Lent, NoRoom, Order, Quote, Refusal, Row, RowAnswer};
 use crate::{COUNTS, WORK};
 
 /// The numbers of a path.
@@ -90,13 +90,7 @@ impl Tables {
     /// and nobody was compared with it.
     pub fn count(&mut self, order: &Order, polynomial: u64) -> Result<Row, Refusal> {
         let answer = count(order.any(), polynomial, self.lent());
-        let found = answer.map(|listed| Found {
-            events: listed.events,
-            paths: listed.paths,
-            polynomial,
-            shared: 0,
-        });
-        self.row(order, found)
+        self.row(order, answer)
     }
 
     fn lent(&mut self) -> Lent<'_> {
@@ -109,12 +103,12 @@ impl Tables {
         }
     }
 
-    /// The row for this order of what was found.
-    fn row(&mut self, order: &Order, answer: Result<Found, Refusal>) -> Result<Row, Refusal> {
+    /// The row for this order of what was answered.
+    fn row(&mut self, order: &Order, answer: Result<RowAnswer, Refusal>) -> Result<Row, Refusal> {
         self.listed = answer.map_or(0, |_| weights(order));
         Ok(Row {
             order: order.clone(),
-            found: answer?,
+            answer: answer?,
             plain: self.plain().to_vec(),
             undetected: self.undetected().to_vec(),
         })

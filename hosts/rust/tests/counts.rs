@@ -2,8 +2,8 @@
 
 mod lent;
 
-use dohvrin::{count, list, part, quote, row_text, search};
-use dohvrin::{AnyOrder, Event, Found, Lent, Link, Listed, Refusal, TEXT, WORK};
+use dohvrin::{collect, count, list, part, quote, row_text, search};
+use dohvrin::{AnyOrder, Event, Lent, Link, Refusal, RowAnswer, TEXT, WORK};
 use lent::lent;
 
 /// Code S with this threshold; m is 1, so that there is one polynomial.
@@ -64,7 +64,8 @@ fn one_entry_for_each_weight_from_1() {
 
 #[test]
 fn a_text_takes_as_many() {
-    let found = Found {
+    let row = RowAnswer {
+        refusal: 0,
         events: 5,
         paths: 13,
         polynomial: 0x3,
@@ -73,22 +74,15 @@ fn a_text_takes_as_many() {
     let (order, mut text) = (order(Link::TailBiting, 6), [9; TEXT]);
     for (plain, undetected) in [(4, 5), (5, 4), (0, 5), (5, 0)] {
         let (plain, undetected) = (vec![1; plain], vec![1; undetected]);
-        let answer = row_text(order, found, &plain, &undetected, &mut text);
+        let answer = row_text(order, row, &plain, &undetected, &mut text);
         assert_eq!(answer, Err(Refusal::Room));
         assert_eq!(text, [9; TEXT]);
     }
-    let size = row_text(
-        order,
-        found,
-        &[1, 2, 3, 4, 5],
-        &[5, 4, 3, 2, 1, 0],
-        &mut text,
-    )
-    .unwrap();
+    let size = row_text(order, row, &[1, 2, 3, 4, 5], &[5, 4, 3, 2, 1, 0], &mut text).unwrap();
     let expected = "A 1 1 5\nA 2 2 4\nA 3 3 3\nA 4 4 2\nA 5 5 1\nCRC 0x3 18446744073709551615\n";
     assert!(text[..size].ends_with(expected.as_bytes()));
     let one = AnyOrder { d: 1, ..order };
-    let given = Found { shared: 0, ..found };
+    let given = RowAnswer { shared: 0, ..row };
     let size = row_text(one, given, &[], &[], &mut text).unwrap();
     assert_eq!(
         &text[..size],
@@ -97,9 +91,48 @@ fn a_text_takes_as_many() {
 }
 
 #[test]
+fn a_refusal_asks_for_the_buffer_alone() {
+    let row = RowAnswer {
+        refusal: 13,
+        ..RowAnswer::default()
+    };
+    // No counts, and an order of which nothing is right.
+    let (order, mut text) = (AnyOrder::default(), [9; TEXT]);
+    let answer = row_text(order, row, &[], &[], &mut text[1..]);
+    assert_eq!((answer, text), (Err(Refusal::Room), [9; TEXT]));
+    let size = row_text(order, row, &[], &[], &mut text).unwrap();
+    assert_eq!(&text[..size], b"NO 13\n");
+    assert_eq!(text[size..], [0; TEXT][size..]);
+}
+
+#[test]
+fn what_a_call_does_not_tell_is_0() {
+    let order = order(Link::TailBiting, 6);
+    let (collected, _) = with_counts(5, 5, |l| collect(order, l.events, l.work));
+    let row = RowAnswer {
+        events: 5,
+        ..RowAnswer::default()
+    };
+    assert_eq!(collected, Ok(row));
+    let listed = |l: Lent| list(order, l.events, l.paths, l.plain, l.work);
+    let (listed, _) = with_counts(5, 5, listed);
+    let row = RowAnswer { paths: 13, ..row };
+    assert_eq!(listed, Ok(row));
+    let (counted, _) = with_counts(5, 5, |l| count(order, 0x3, l));
+    let row = RowAnswer {
+        polynomial: 0x3,
+        ..row
+    };
+    assert_eq!(counted, Ok(row));
+    let (searched, _) = with_counts(5, 5, |l| search(order, l));
+    assert_eq!(searched, Ok(RowAnswer { shared: 1, ..row }));
+}
+
+#[test]
 fn empty_lists_for_d_1() {
     for order in Link::ALL.map(|link| order(link, 1)) {
-        let found = Found {
+        let found = RowAnswer {
+            refusal: 0,
             events: 1,
             paths: 0,
             polynomial: 0x3,
@@ -111,14 +144,12 @@ fn empty_lists_for_d_1() {
         let (_, left) = with_counts(2, 1, |l| search(order, l));
         assert_eq!(left, [vec![0, 0], vec![0]]);
         let (counted, _) = with_counts(0, 0, |l| count(order, 0x3, l));
-        let listed = Listed {
-            events: 1,
-            paths: 0,
-        };
-        assert_eq!(counted, Ok(listed));
+        // Given, and compared with nobody.
+        let given = RowAnswer { shared: 0, ..found };
+        assert_eq!(counted, Ok(given));
         // All share them, where m is not 1.
         let (searched, _) = with_counts(0, 0, |l| search(AnyOrder { m: 3, ..order }, l));
-        let all = Found {
+        let all = RowAnswer {
             polynomial: 0x9,
             shared: 4,
             ..found

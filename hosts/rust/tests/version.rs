@@ -4,7 +4,7 @@
 mod lent;
 
 use dohvrin::{collect, count, encode, list, quote, row_text, search, weigh};
-use dohvrin::{AnyOrder, Found, Lent, Link, Refusal, TEXT, WORK};
+use dohvrin::{AnyOrder, Lent, Link, Refusal, RowAnswer, TEXT, WORK};
 use lent::lent;
 
 const NO: Refusal = Refusal::Version;
@@ -54,7 +54,8 @@ fn a_terminated_link_has_no_quotes() {
 
 #[test]
 fn before_a_text() {
-    let found = Found {
+    let row = RowAnswer {
+        refusal: 0,
         events: 4,
         paths: 6,
         polynomial: 0x5,
@@ -63,7 +64,7 @@ fn before_a_text() {
     for order in WRONG.into_iter().flat_map(orders) {
         for room in [0, TEXT] {
             let mut text = vec![9; room];
-            assert_eq!(row_text(order, found, &[0; 5], &[0; 5], &mut text), Err(NO));
+            assert_eq!(row_text(order, row, &[0; 5], &[0; 5], &mut text), Err(NO));
             assert_eq!(text, vec![9; room]);
         }
     }
@@ -71,7 +72,7 @@ fn before_a_text() {
     let texts = Link::ALL.map(|link| {
         let [order, _] = orders(link.version());
         let mut text = vec![9; TEXT];
-        let size = row_text(order, found, &[0; 5], &[0; 5], &mut text).unwrap();
+        let size = row_text(order, row, &[0; 5], &[0; 5], &mut text).unwrap();
         text.truncate(size);
         text
     });

@@ -2,13 +2,12 @@
 -- a word of it weighs at least is kept.
 -- Assumes nothing.
 use Prim.Native.Nat.{ℕ, _≤_, _<_}
-use native.Mathlib.Omega.{arith}
 use lib.Dec.{T, ltb, ltb→lt}
-use lib.ListN.{length}
 use mathlib.Core.Bool.{not}
 use mathlib.Core.Path.{subst}
 use Rattle.lists.proofs.Choices.{cond-true, cond-false}
-use Rattle.walks.proofs.Frame.{_≡_, refl, sym, _∙_, ap, none, just, List, [], _∷_, URA, Heap, Tables, Model, GhostRules, Running, givenOf, tablesOf, _$_, !, of-opd, bin, var, makes, asks, u64, number, nothing, Kind, by-value, shared, lent, Goals, Each, applied, Par, val, the, shr, mut, all-of, at-loan, bound, own-bound, Walking, over, begin-asked, relend, calls-into, shares-at, unshares-at, if-returns, finish, by-walk}
+use Rattle.walks.proofs.Frame.{length, _≡_, refl, sym, _∙_, ap, List, [], _∷_, _$_, !, of-opd, bin, u64, var, makes, number, nothing, Kind, names, by-value, shared, lent, Par, the, all-of, at-loan, pars, own-bound, val, shr, mut, relend, calls-asked, shares-at, unshares-at, if-returns}
+use Rattle.walks.proofs.Frame.{finish, by-steps-asked}
 use Rattle.events.specs.declared.Event.{Event}
 use Rattle.events.proofs.Event as T
 use Rattle.rotations.specs.Model.Put.{puts}
@@ -21,9 +20,6 @@ use Rattle.chains.specs.Model.Chaining.{atState, afterState, found, unbe
 use Rattle.chains.proofs.States.{state-ready, passed-none}
 use Rattle.chains.proofs.list_state.Met as list-state
 use Rattle.chains.proofs.list_lighter as list-lighter
-use Rattle.chains.proofs.list_lighter.Key as key
-use Rattle.chains.proofs.list_lighter.Statement as stated
-use Rattle.chains.proofs.list_lighter.Code as code
 
 module _ {table : List Event} {work paths : List ℕ} {at i first w : ℕ} (ask : ToListState table work paths at i first w) where
   passed : {whole : ℕ} → whole ≡ wholeAt work i → T (ltb w whole) → (work, (paths, at)) ≡ lighterListed table first w i work (paths, at)
@@ -46,48 +42,32 @@ module _ {table : List Event} {work paths : List ℕ} {at i first w : ℕ} (ask 
       ∙ ap (λ (x : List ℕ). (x, puts (found table (atState table i work) (unbegun (bitsAt work) first w)) (paths, at)))
       (sym (cond-false (ltb w (wholeAt work i)) work (wholeKept i (atState table i work)) (subst (λ (x : ℕ). T (not (ltb w x))) is t)))
 
-abbrev ks : List (Kind 3)
-ks = shared 0 tt T.the-row ∷ lent 1 tt u64 ∷ lent 2 tt u64 ∷ by-value number ∷ by-value number ∷ by-value number ∷ by-value number ∷ []
+abbrev ks : List Kind
+ks = shared T.the-row ∷ lent u64 ∷ lent u64 ∷ by-value number ∷ by-value number ∷ by-value number ∷ by-value number ∷ []
 
-module _ {M : Type 1} (𝓤 : URA M) (H : Heap 𝓤) (𝓜 : Model 𝓤 H) (𝓖 : GhostRules 𝓤 H) (𝓡 : Running 𝓤 H 𝓜) where
-  abbrev 𝓣 : Tables 𝓤 H
-  𝓣 = over 𝓤 H 𝓜 𝓖 𝓡 code.env
-
-  abbrev Goal : Goals ks
-  Goal κs qs a = Walking 𝓤 H 𝓜 𝓖 𝓡 code.env ks number (list-lighter.clauses 𝓤 H) code.function κs qs a tt
-
-  walk : Each ks Goal
-  unfolding tablesOf
-  walk events work paths at i first w =
-      let ps : List Par = the events ∷ all-of work ∷ all-of paths ∷ val at ∷ val i ∷ val first ∷ val w ∷ [] in
-      begin-asked 𝓤 H 𝓜 𝓖 𝓡 code.env ks number (list-lighter.clauses 𝓤 H) code.function ps (own-bound ps, tt) (λ ok. ok) (λ e. e) (λ ends ask bs.
-      let few : i .it < stateCount = ask .state-small in
-      let enough : areaSize ≤ length (work .was) = ask .indexed .enough in
-      relend ! 3 work refl refl $
-      shares-at ! tt 1 work (work .was) refl refl (λ x.
-      let reading : List Par = shr (at-loan work x) (work .was) refl ∷ val i ∷ [] in
-      calls-into 𝓣 ! 4 (2 ∷ []) reading number none (λ xs. whole-of.met 𝓤 H 𝓜 𝓖 𝓡 (bound reading xs, tt))
-      (asks (givenOf 𝓤 H 𝓜 𝓖) (enough, few)) tt refl refl (λ whole whole-ok _ is-whole _.
-      unshares-at ! tt 1 work (work .was) refl x refl $
-      makes ! 3 (bin ! (var ! 3 refl) (var ! 3 refl) tt) refl (tt, tt) $
-      if-returns 𝓣 ! (var ! 3 refl)
-      (λ light-said.
-      makes ! 3 (of-opd ! (var ! 3 refl)) refl (tt, record { fits = at .is .1 }) $
-      finish 𝓣 ! 3 (ends (at .it) (at .is) (work .was, (paths .was, tt)) (refl, (refl, tt)) (passed ask is-whole light-said)) refl refl)
-      (λ heavy-said.
-      relend ! 3 work refl refl $ relend ! 3 paths refl refl $
-      let listing : List Par = the events ∷ all-of work ∷ all-of paths ∷ val at ∷ val i ∷ val first ∷ val w ∷ [] in
-      calls-into 𝓣 ! 3 (0 ∷ 1 ∷ 2 ∷ []) listing number none (λ xs. list-state.met 𝓤 H 𝓜 𝓖 𝓡 (bound listing xs, tt))
-      (asks (givenOf 𝓤 H 𝓜 𝓖) ask) tt refl refl (λ r r-ok (us, (ls, _)) turn (ku, (kl, _)).
-      relend ! 3 work refl refl $
-      let keeping : List Par = mut work us ku ∷ val i ∷ [] in
-      calls-into 𝓣 ! 3 (1 ∷ []) keeping nothing none (λ xs. keep-whole.met 𝓤 H 𝓜 𝓖 𝓡 (bound keeping xs, tt))
-      (asks (givenOf 𝓤 H 𝓜 𝓖) (asks-keep ask turn, few)) tt refl refl (λ _ _ (zs, _) kept (kz, _).
-      makes ! 3 (of-opd ! (var ! 3 refl)) refl (tt, record { fits = r-ok .1 }) $
-      finish 𝓣 ! 3 (ends r r-ok (zs, (ls, tt)) (kz, (kl, tt)) (listed ask is-whole heavy-said turn kept)) refl refl))))))
-
-pub list-lighter-spec : {M : Type 1} → stated.statement M
-unfolding code.routine
+pub list-lighter-spec : {M : Type 1} → list-lighter.Statement.statement M
+unfolding list-lighter.Code.routine
 list-lighter-spec 𝓤 H 𝓜 𝓖 𝓡 =
-    by-walk 𝓤 H 𝓜 𝓖 𝓡 code.env ks number (list-lighter.clauses 𝓤 H) code.function key.name (code.unfolded 𝓤 H 𝓜 𝓡)
-    (λ κs qs a g are. applied ks (Goal 𝓤 H 𝓜 𝓖 𝓡) (walk 𝓤 H 𝓜 𝓖 𝓡) κs qs a are)
+    by-steps-asked 𝓤 H 𝓜 𝓖 𝓡 list-lighter.Code.env ks number (list-lighter.clauses 𝓤 H) list-lighter.Code.function (λ e. own-bound (pars ks e)) (λ e ok. ok) (λ e c. c) list-lighter.Key.name (list-lighter.Code.unfolded 𝓤 H 𝓜 𝓡)
+    (λ e x. x) (λ w κs qs a g are. w (names ks κs qs a are)) (λ events work paths at i first w 𝓣 ends ask bs.
+    let few : i .it < stateCount = ask .state-small in
+    let enough : areaSize ≤ length (work .was) = ask .indexed .enough in
+    relend ! 3 work refl $
+    shares-at ! tt 1 work (work .was) refl refl (λ x.
+    let reading : List Par = shr (at-loan work x) (work .was) refl ∷ val i ∷ [] in
+    calls-asked 𝓣 ! 4 (2 ∷ []) reading number whole-of.met (enough, few) refl (λ whole whole-ok _ is-whole _.
+    unshares-at ! tt 1 work (work .was) refl x refl $
+    makes ! 3 (bin ! (var ! 3 refl) (var ! 3 refl) tt) refl (tt, tt) $
+    if-returns 𝓣 ! (var ! 3 refl)
+    (λ light-said.
+    makes ! 3 (of-opd ! (var ! 3 refl)) refl (tt, record { fits = at .is .1 }) $
+    finish 𝓣 ! 3 (ends (at .it) (at .is) (work .was, (paths .was, tt)) (refl, (refl, tt)) (passed ask is-whole light-said)) refl)
+    (λ heavy-said.
+    relend ! 3 work refl $ relend ! 3 paths refl $
+    let listing : List Par = the events ∷ all-of work ∷ all-of paths ∷ val at ∷ val i ∷ val first ∷ val w ∷ [] in
+    calls-asked 𝓣 ! 3 (0 ∷ 1 ∷ 2 ∷ []) listing number list-state.met ask refl (λ r r-ok (us, (ls, _)) turn (ku, (kl, _)).
+    relend ! 3 work refl $
+    let keeping : List Par = mut work us ku ∷ val i ∷ [] in
+    calls-asked 𝓣 ! 3 (1 ∷ []) keeping nothing keep-whole.met (asks-keep ask turn, few) refl (λ _ _ (zs, _) kept (kz, _).
+    makes ! 3 (of-opd ! (var ! 3 refl)) refl (tt, record { fits = r-ok .1 }) $
+    finish 𝓣 ! 3 (ends r r-ok (zs, (ls, tt)) (kz, (kl, tt)) (listed ask is-whole heavy-said turn kept)) refl))))))

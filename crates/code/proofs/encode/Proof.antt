@@ -13,7 +13,7 @@ use Rattle.order.proofs.Asked.{length-orderIn, few-in}
 use Rattle.code.specs.Links.{stepsOf}
 use Rattle.code.specs.Model.Steps.{mostSteps}
 use Rattle.code.proofs.Links.{few-steps}
-use Rattle.code.proofs.Calls.{accepted-code, encode-refused-early, encode-no-room, encode-refused-late, encode-answered, product-small}
+use Rattle.code.proofs.Calls.{code-accepted, encode-refused-early, encode-no-room, encode-refused-late, encode-answered, product-small}
 use Rattle.code.proofs.encode.Statement.{statement}
 use Rattle.code.proofs.encode.Tie as tie
 
@@ -24,14 +24,14 @@ returns : tie.Need-returns
 returns c = encode-refused-early _ _ (c .before .ask-order .ensures) _ _ (c .if1 .taken)
 
 steps-of-requires : tie.Need-steps-of-requires
-steps-of-requires c κs = accepted-code _ _ (c .before .ask-order .ensures) (c .if1 .left)
+steps-of-requires c κs = code-accepted _ _ (c .before .ask-order .ensures) (c .if1 .left)
 
 mul-needed : tie.Need-mul-needed
 unfolding orderIn
 mul-needed c =
     let asked = c .before .before in
     let o = asked .before .before .before .args .order in
-    let acc = accepted-code _ _ (asked .before .ask-order .ensures) (asked .if1 .left) in
+    let acc = code-accepted _ _ (asked .before .ask-order .ensures) (asked .if1 .left) in
     let steps = c .before .steps-of in
     let short : steps .result ≤ mostSteps = rw (steps .ensures) (few-steps _ acc) in
     let few = few-in o acc in
@@ -66,7 +66,7 @@ encode-in-requires c κs =
     let asked = c .before .before .before .before .before .before in
     record {
       word = record {
-        code = accepted-code _ _ (asked .before .ask-order .ensures) (asked .if1 .left);
+        code = code-accepted _ _ (asked .before .ask-order .ensures) (asked .if1 .left);
         fits = ltb-true _ _ (sym (c .before .before .is-below .ensures) ∙ not-false _ (c .before .if3 .left));
       };
       room = roomy (c .before .before .before);

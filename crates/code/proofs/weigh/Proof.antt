@@ -4,7 +4,7 @@ use mathlib.Core.Path.{sym, ap, _∙_}
 use borrow.Author.Tests.{not-true, not-false, ltb-true}
 use Rattle.order.specs.Answer.{accepted}
 use Rattle.order.specs.Answers.{orderIn}
-use Rattle.code.proofs.Calls.{accepted-code, weigh-refused-early, weigh-refused-late, weigh-answered}
+use Rattle.code.proofs.Calls.{code-accepted, weigh-refused-early, weigh-refused-late, weigh-answered}
 use Rattle.code.proofs.weigh.Statement.{statement}
 use Rattle.code.proofs.weigh.Tie as tie
 
@@ -28,7 +28,7 @@ weight-in-requires : tie.Need-weight-in-requires
 unfolding orderIn
 weight-in-requires c κs =
     record {
-      code = accepted-code _ _ (c .before .before .before .ask-order .ensures) (c .before .before .if1 .left);
+      code = code-accepted _ _ (c .before .before .before .ask-order .ensures) (c .before .before .if1 .left);
       fits = ltb-true _ _ (sym (c .before .is-below .ensures) ∙ not-false _ (c .if2 .left));
     }
 

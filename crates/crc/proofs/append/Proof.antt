@@ -43,10 +43,11 @@ shift-up-requires c κs =
 
 remainder-of-requires : tie.Need-remainder-of-requires
 remainder-of-requires c κs =
-    let a = c .before .before .before .before .before .args in
-    let none = sym (c .before .before .before .before .ask-polynomial .ensures) ∙ c .before .before .before .if1 .left in
+    let past = c .before in
+    let a = past .before .before .before .before .args in
+    let none = sym (past .before .before .before .ask-polynomial .ensures) ∙ past .before .before .if1 .left in
     let g = accepted-polynomial (a .bits) (a .m) (a .polynomial) none in
-    let below = ltb-true _ _ (sym (c .before .before .is-below .ensures) ∙ not-false _ (c .before .if2 .left)) in
+    let below = ltb-true _ _ (sym (past .before .is-below .ensures) ∙ not-false _ (past .if2 .left)) in
     record {
       modulus = record { at-most-12 = g .at-most-12; degree = g .degree };
       at-most-128 = g .at-most-128;
@@ -61,7 +62,10 @@ xor-requires c κs = search needs
 
 returns-3 : tie.Need-returns-3
 unfolding appendCall
-returns-3 c = ap accepted (append-parts _ _ _ _ _ _ _ (c .before .before .before .shift-up .ensures) (c .before .before .remainder-of .ensures) (c .before .make .ensures) (c .xor .ensures)) ∙ answered _ _ _ _ _ _ _ (c .before .before .before .before .before .before .before .ask-polynomial .ensures) (c .before .before .before .before .before .before .if1 .left) (sym (c .before .before .before .before .before .is-below .ensures) ∙ not-false _ (c .before .before .before .before .if2 .left))
+returns-3 c =
+    let past = c .before .before .before .before in
+    ap accepted (append-parts _ _ _ _ _ _ _ (c .before .before .before .shift-up .ensures) (c .before .before .remainder-of .ensures) (c .before .make .ensures) (c .xor .ensures))
+    ∙ answered _ _ _ _ _ _ _ (past .before .before .before .ask-polynomial .ensures) (past .before .before .if1 .left) (sym (past .before .is-below .ensures) ∙ not-false _ (past .if2 .left))
 
 pub append-spec : {M : Type 1} → statement M
 append-spec =

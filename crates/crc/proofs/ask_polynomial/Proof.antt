@@ -27,11 +27,20 @@ is-check-polynomial-requires c κs = search needs
 
 returns-3 : tie.Need-returns-3
 unfolding polynomialQuestions
-returns-3 c = sym (firstNo-yes _ _ (sym (c .before .before .before .before .before .from-to .ensures) ∙ not-false _ (c .before .before .before .before .if1 .left)) ∙ firstNo-yes _ _ (sym (c .before .before .before .degree-fits .ensures) ∙ not-false _ (c .before .before .if2 .left)) ∙ firstNo-no _ _ (sym (c .before .is-check-polynomial .ensures) ∙ not-true _ (c .if3 .taken)))
+returns-3 c =
+    let past = c .before .before in
+    sym (firstNo-yes _ _ (sym (past .before .before .before .from-to .ensures) ∙ not-false _ (past .before .before .if1 .left))
+    ∙ firstNo-yes _ _ (sym (past .before .degree-fits .ensures) ∙ not-false _ (past .if2 .left))
+    ∙ firstNo-no _ _ (sym (c .before .is-check-polynomial .ensures) ∙ not-true _ (c .if3 .taken)))
 
 returns-4 : tie.Need-returns-4
 unfolding polynomialQuestions
-returns-4 c = sym (firstNo-yes _ _ (sym (c .before .before .before .before .before .from-to .ensures) ∙ not-false _ (c .before .before .before .before .if1 .left)) ∙ firstNo-yes _ _ (sym (c .before .before .before .degree-fits .ensures) ∙ not-false _ (c .before .before .if2 .left)) ∙ firstNo-yes _ _ (sym (c .before .is-check-polynomial .ensures) ∙ not-false _ (c .if3 .left)) ∙ firstNo-none)
+returns-4 c =
+    let past = c .before .before in
+    sym (firstNo-yes _ _ (sym (past .before .before .before .from-to .ensures) ∙ not-false _ (past .before .before .if1 .left))
+    ∙ firstNo-yes _ _ (sym (past .before .degree-fits .ensures) ∙ not-false _ (past .if2 .left))
+    ∙ firstNo-yes _ _ (sym (c .before .is-check-polynomial .ensures) ∙ not-false _ (c .if3 .left))
+    ∙ firstNo-none)
 
 pub ask-polynomial-spec : {M : Type 1} → statement M
 ask-polynomial-spec =

@@ -54,12 +54,14 @@ pub record ToFill (o : Order) (table : List Event) (n : ℕ) (plain work : List 
   pub wide : workSize ≤ length work
   pub zeros : work ≡ cleared 0 work
 
--- the paths, the plain counts and the work area, with the number of paths or one more than there is room for
-abbrev pub Filling : Type 0
-Filling = ℕ × (List ℕ × (List ℕ × List ℕ))
+-- what is left, and what the number tells: all paths are there, or there are more than there is room for
+pub record AllPaths (o : Order) (table after plain counts : List ℕ) (n : ℕ) : Type 0 where
+  pub fits : length (paths o) ≤ pathRoom (length table)
+  pub number : n ≡ length (paths o)
+  pub words : after ≡ pathTable (length table) o
+  pub plain-counts : counts ≡ padded (length plain) 0 (plainCounts o)
 
-unfoldable pub filling : Order → (table plain work : List ℕ) → Filling
-filling o table plain work =
-    cond (leb (length (paths o)) (pathRoom (length table)))
-    (length (paths o), (pathTable (length table) o, (padded (length plain) 0 (plainCounts o), cleared 0 work)))
-    (pathRoom (length table) + 1, (cleared 0 table, (cleared 0 plain, cleared 0 work)))
+pub record Filled (o : Order) (table after plain counts work left : List ℕ) (n : ℕ) : Type 0 where
+  pub inside : n ≤ pathRoom (length table) → AllPaths o table after plain counts n
+  pub past : pathRoom (length table) < n → pathRoom (length table) < length (paths o)
+  pub zeros : left ≡ cleared 0 work

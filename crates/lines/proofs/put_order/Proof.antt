@@ -23,16 +23,19 @@ abbrev first : tie.After-put-numbers2 → tie.After-put-bytes
 first c = second c .before .before .before .before .before
 
 -- where the third begins: at most four generators
+abbrev copied : tie.After-generators → tie.After-generators-of
+copied c = c .before .before .before .before .before .before .before .before .before .before .before .before
+
 abbrev start : tie.After-generators → tie.Start
-start c = c .before .before .before .before .before .before .before .before .before .before .before .before .before
+start c = copied c .before .before
 
-abbrev four : OrderRecord → List ℕ
-four o = o .g1 ∷ o .g2 ∷ o .g3 ∷ o .g4 ∷ []
-
-few : (c : tie.After-generators) → length (take (start c .args .o .n) (four (start c .args .o))) ≡ start c .args .o .n
-few c = length-take-le _ _ (start c .pre .0)
+few : (c : tie.After-generators) → length (take (start c .args .o .n) (copied c .generators-of .result)) ≡ start c .args .o .n
+few c = length-take-le _ _ (omega (arith, copied c .generators-of .ensures .1))
 
 -- ---- the needs
+
+generators-of-requires : tie.Need-generators-of-requires
+generators-of-requires c κs = tt
 
 slice-aggregate-put-bytes : tie.Need-slice-aggregate-put-bytes
 slice-aggregate-put-bytes c = search needs
@@ -76,13 +79,15 @@ returns c =
     let last = third .put-numbers2 in
     let end = put-byte (last .last .0) (last .result) 10 refl in
     let all = joined (first third .put-bytes .ensures) (joined (second third .put-numbers .ensures) (joined (last .ensures) end)) in
+    let all-four = copied (third .before) .generators-of .ensures in
     let at-most-4 = start (third .before) .pre .0 in
-    put-as (sym (order-line _ at-most-4)) (put-most 213 all (omega (arith, all .short, few (third .before))))
+    put-as (sym (order-line _ _ (all-four .0) (omega (arith, all-four .1, at-most-4)))) (put-most 213 all (omega (arith, all .short, few (third .before))))
 
 pub put-order-spec : {M : Type 1} → statement M
 put-order-spec =
     tie.close
     (tie.spec
+    generators-of-requires
     slice-aggregate-put-bytes
     put-bytes-requires
     slice-aggregate-put-numbers

@@ -8,21 +8,20 @@ use mathlib.Core.List.{List}
 use lib.ListN.{length}
 use Rattle.lists.specs.Lists.{all, any}
 use Rattle.gcd.specs.SharedFactor.{shareFactor}
-use Rattle.order.specs.Questions.{inRange, hasBit}
+use Rattle.order.specs.Questions.{highestVersion, longestWord, inRange, hasBit}
 use Rattle.order.specs.Order.{Order}
 use Rattle.order.specs.declared.questions.Takes.{Takes}
-use Rattle.order.specs.declared.questions.Takes.the-variants as T
 
 -- questions 2, 3, 4, 5, 8, 9 and 16, of what they are about: whatever else an order has, its code is accepted or not
 pub record CodeAccepted (version v N : ℕ) (generators : List ℕ) : Type 0 where
   pub some-version : 1 ≤ version
-  pub known-version : version ≤ 2
+  pub known-version : version ≤ highestVersion
   pub some-generators : 2 ≤ length generators
   pub few-generators : length generators ≤ 4
   pub some-memory : 1 ≤ v
   pub small-memory : v ≤ 8
   pub long-enough : v ≤ N
-  pub at-most-128 : N ≤ 128
+  pub at-most-128 : N ≤ longestWord
   pub in-range : all (inRange v) generators ≡ true
   pub one-has-bit-v : any (hasBit v) generators ≡ true
   pub one-has-bit-0 : any (hasBit 0) generators ≡ true
@@ -52,7 +51,7 @@ pub record AcceptedWhole (o : Order) : Type 0 where
   pub degree : AcceptedDegree o
 
 -- by what a call takes
-unfoldable pub AcceptedAs : Takes → Order → Type 0
-AcceptedAs T.Code o = AcceptedCode o
-AcceptedAs T.Threshold o = Accepted o
-AcceptedAs T.Everything o = AcceptedWhole o
+pub record AcceptedAs (takes : Takes) (o : Order) : Type 0 where
+  pub code : AcceptedCode o
+  pub degree : takes .degree ≡ true → AcceptedDegree o
+  pub threshold : takes .threshold ≡ true → AcceptedThreshold o

@@ -12,7 +12,8 @@ slice-aggregate-search-events-2 : tie.Need-slice-aggregate-search-events-2
 slice-aggregate-search-events-2 c = search needs
 
 search-events-requires : tie.Need-search-events-requires
-search-events-requires c κs = search needs
+unfolding workSize
+search-events-requires c κs = c .before .before .before .before .before .before .pre
 
 same-length : tie.Need-same-length
 same-length c = search needs

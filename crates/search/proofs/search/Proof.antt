@@ -1,82 +1,27 @@
--- `search::search` meets its contract: a walk of its MIR. It returns early with all as it was, or the best polynomial is chosen.
+-- `search::search` meets its contract: its plan is called.
 -- Assumes nothing.
-use Prim.Native.Nat.{ℕ}
-use lib.ListN.{length}
-use Rattle.walks.proofs.Frame.{_≡_, refl, sym, _∙_, ap, none, List, [], _∷_, URA, Heap, Tables, Model, GhostRules, Running, givenOf, tablesOf, _$_, !, lit, of-opd, bin, var, part-of, makes, asks, is-zero, number, Kind, by-value, Goals, Each, applied, Par, val, all-of, num, res, bound, own-bound, Walking, over, begin, relend, calls, calls-into, if-returns, finish, by-walk}
-use Rattle.lists.proofs.Choices.{eqb-differs}
-use Rattle.order.specs.Questions.{firstNo}
-use Rattle.order.specs.Answer.{Answer}
-use Rattle.order.specs.Answers.{orderIn}
-use Rattle.order.specs.Order as O
-use Rattle.order.proofs.FirstNo.{leaves-refused, leaves-answered}
+use native.Mathlib.Nat.{le-refl}
+use Rattle.walks.proofs.Frame.{ℕ, refl, List, [], _∷_, _$_, !, Kind, refs, entries, names, by-value, Par, all-of, res, pars, own-bound, val, calls, calls-asked, relend-all, finish, by-steps}
+use Rattle.order.specs.Order.{everything}
 use Rattle.events.proofs.Plains.{Order}
-use Rattle.search.specs.declared.Searched as SS
-use Rattle.search.specs.declared.Searched.the-variants.{Refused}
-use Rattle.search.specs.declared.Job as SJ
-use Rattle.search.specs.declared.Job.the-variants.{Choose}
-use Rattle.search.specs.Calls.{Found, SearchTables, searchTables, searchedAs, searchQuestions, searchCall}
-use Rattle.search.specs.Model.Steps.{ran, ToRun}
-use Rattle.search.proofs.Plains.{Searched, Job, tables}
-use Rattle.search.proofs.Accepts.{may-choose}
-use Rattle.search.proofs.Answers.{ran-choose}
-use Rattle.search.proofs.ask_search.Met as ask-search
-use Rattle.search.proofs.refuse.Met as refuse
-use Rattle.search.proofs.choosing.Met as choosing
-use Rattle.search.proofs.run.Met as run
-use Rattle.search.proofs.search as search
-use Rattle.search.proofs.search.Key as key
-use Rattle.search.proofs.search.Statement as stated
-use Rattle.search.proofs.search.Code as code
+use Rattle.jobs.specs.declared.Job.the-variants as J
+use Rattle.jobs.proofs.Plains.{Answered, Plan, tables}
+use Rattle.calls.proofs.call.Met as call
+use Rattle.search.specs.Calls.{searchCall}
+use Rattle.search.proofs.Plans.{own-told, own-sound}
+use Rattle.search.proofs as here
 
-abbrev ks : List (Kind 5)
+abbrev ks : List Kind
 ks = by-value Order ∷ tables
 
-module _ (o : O.Order) (t : SearchTables) (why : ℕ) (asked : why ≡ firstNo (searchQuestions o (length (t .plain)) (length (t .undetected)) (length (t .work)))) where
-  is-refused : (r : SS.Searched) → r ≡ Refused why → (why ≡ 0 → ⊥) → _≡_ {A = Answer Found × SearchTables} (searchedAs r, t) (searchCall o t)
-  unfolding searchCall
-  is-refused r e n = ap (λ (x : SS.Searched). (searchedAs x, t)) e ∙ leaves-refused t _ why _ asked n
-
-  module _ (good : why ≡ 0) (job : SJ.Job) (is : job ≡ Choose) where
-    may-run : ToRun job o o (t .plain) (t .undetected) (t .work)
-    may-run = rw is (may-choose o t (sym asked ∙ good))
-
-    is-found : (x : Answer Found × SearchTables) → x ≡ ran job o o t → x ≡ searchCall o t
-    unfolding searchCall
-    is-found x e = e ∙ ran-choose o o t job is ∙ leaves-answered t _ _ (sym good ∙ asked)
-
-module _ {M : Type 1} (𝓤 : URA M) (H : Heap 𝓤) (𝓜 : Model 𝓤 H) (𝓖 : GhostRules 𝓤 H) (𝓡 : Running 𝓤 H 𝓜) where
-  abbrev 𝓣 : Tables 𝓤 H
-  𝓣 = over 𝓤 H 𝓜 𝓖 𝓡 code.env
-
-  abbrev Goal : Goals ks
-  Goal κs qs a = Walking 𝓤 H 𝓜 𝓖 𝓡 code.env ks Searched (search.clauses 𝓤 H) code.function κs qs a tt
-
-  walk : Each ks Goal
-  unfolding tablesOf
-  walk order events paths plain undetected work =
-      let ps : List Par = val order ∷ all-of events ∷ all-of paths ∷ all-of plain ∷ all-of undetected ∷ all-of work ∷ [] in
-      let o : O.Order = orderIn (order .it) in
-      let t : SearchTables = searchTables (events .was) (paths .was) (plain .was) (undetected .was) (work .was) in
-      begin 𝓤 H 𝓜 𝓖 𝓡 code.env ks Searched (search.clauses 𝓤 H) code.function ps (own-bound ps, tt) (λ ok. ok) (λ e. e) (λ ends bs.
-      makes ! 5 (of-opd ! (part-of ! 5 1 refl refl refl)) refl (tt, record { fits = plain .room .0 }) $
-      makes ! 5 (of-opd ! (part-of ! 5 1 refl refl refl)) refl (tt, record { fits = undetected .room .0 }) $
-      makes ! 5 (of-opd ! (part-of ! 5 1 refl refl refl)) refl (tt, record { fits = work .room .0 }) $
-      let asking : List Par = val order ∷ num (length (plain .was)) (plain .room .0) ∷ num (length (undetected .was)) (undetected .room .0) ∷ num (length (work .was)) (work .room .0) ∷ [] in
-      calls 𝓣 ! 5 [] asking number (λ xs. ask-search.met 𝓤 H 𝓜 𝓖 𝓡 (bound asking xs, tt)) tt refl refl (λ why is-why _ asked _.
-      makes ! 5 (bin ! (var ! 5 refl) (lit ! tt) tt) refl (tt, tt) $
-      if-returns 𝓣 ! (var ! 5 refl)
-      (λ bad.
-      calls 𝓣 ! 5 [] (res number why is-why ∷ []) Searched (λ xs. refuse.met 𝓤 H 𝓜 𝓖 𝓡 (bound (res number why is-why ∷ []) xs, tt)) tt refl refl (λ r is-r _ e _.
-      finish 𝓣 ! 5 (ends r is-r (events .was, (paths .was, (plain .was, (undetected .was, (work .was, tt))))) (refl, (refl, (refl, (refl, (refl, tt)))))
-      (is-refused o t why asked r e (eqb-differs why 0 bad))) refl refl))
-      (λ good.
-      calls 𝓣 ! 5 [] [] Job (λ xs. choosing.met 𝓤 H 𝓜 𝓖 𝓡 (bound [] xs, tt)) tt refl refl (λ job is-job _ is _.
-      relend ! 5 events refl refl $ relend ! 5 paths refl refl $ relend ! 5 plain refl refl $ relend ! 5 undetected refl refl $ relend ! 5 work refl refl $
-      let running : List Par = res Job job is-job ∷ val order ∷ ps in
-      calls-into 𝓣 ! 5 (0 ∷ 1 ∷ 2 ∷ 3 ∷ 4 ∷ []) running Searched none (λ xs. run.met 𝓤 H 𝓜 𝓖 𝓡 (bound running xs, tt)) (asks (givenOf 𝓤 H 𝓜 𝓖) (may-run o t why asked (is-zero why good) job is)) tt refl refl (λ r is-r (es, (ls, (ms, (ds, (us, _))))) told (ke, (kl, (km, (kd, (ku, _))))).
-      finish 𝓣 ! 5 (ends r is-r (es, (ls, (ms, (ds, (us, tt))))) (ke, (kl, (km, (kd, (ku, tt)))))
-      (is-found o t why asked (is-zero why good) job is _ told)) refl refl)))))
-
-pub search-spec : {M : Type 1} → stated.statement M
-unfolding code.routine
-search-spec 𝓤 H 𝓜 𝓖 𝓡 = by-walk 𝓤 H 𝓜 𝓖 𝓡 code.env ks Searched (search.clauses 𝓤 H) code.function key.name (code.unfolded 𝓤 H 𝓜 𝓡) (λ κs qs a g are. applied ks (Goal 𝓤 H 𝓜 𝓖 𝓡) (walk 𝓤 H 𝓜 𝓖 𝓡) κs qs a are)
+pub search-spec : {M : Type 1} → here.search.Statement.statement M
+unfolding here.search.Code.routine searchCall
+search-spec 𝓤 H 𝓜 𝓖 𝓡 =
+    by-steps 𝓤 H 𝓜 𝓖 𝓡 here.search.Code.env ks Answered (here.search.clauses 𝓤 H) here.search.Code.function (λ e. own-bound (pars ks e)) (λ e ok. ok) (λ e c. c) here.search.Key.name (here.search.Code.unfolded 𝓤 H 𝓜 𝓡)
+    (λ w κs qs a g are. w (names ks κs qs a are)) (λ order events paths plain undetected work 𝓣 ends bs.
+    let g : ℕ = refs ks in
+    let lists : List Par = all-of events ∷ all-of paths ∷ all-of plain ∷ all-of undetected ∷ all-of work ∷ [] in
+    calls 𝓣 ! g [] (val order ∷ []) Plan here.choosing.Met.met refl (λ plan is-plan _ is _.
+    relend-all ! g lists refl $
+    calls-asked 𝓣 ! g (entries ks) (res Plan plan is-plan ∷ lists) Answered call.met (own-sound everything J.Choose (order .it) plan is (le-refl 2) (le-refl 128) refl refl) refl (λ r is-r left told same.
+    finish 𝓣 ! g (ends r is-r left same (own-told everything J.Choose (order .it) plan is (λ x. x) _ told)) refl)))

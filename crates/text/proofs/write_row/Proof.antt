@@ -1,62 +1,56 @@
--- Refused with the buffer as it was, or written into a cleared one.
+-- A row, or a refusal.
 -- Assumes nothing.
-use native.Mathlib.Omega.{arith}
-use mathlib.Core.Path.{sym, _∙_}
-use lib.ListN.{length}
-use Rattle.text.specs.Text.{rowText}
-use Rattle.order.specs.Answers.{orderIn}
-use Rattle.order.proofs.FirstNo.{leaves-refused}
-use Rattle.text.specs.Calls.{rowCall}
-use Rattle.text.specs.Model.Steps.{RowAccepted}
-use Rattle.text.proofs.Calls.{written-as, row-accepted, row-asked}
+use Prim.Native.Nat.{ℕ}
+use mathlib.Core.Path.{_≡_, sym, ap, _∙_}
+use mathlib.Core.List.{List}
+use Rattle.order.specs.Order.{Order}
+use Rattle.order.specs.Answer.{Answer}
+use Rattle.row.specs.declared.Answered.{Answered}
+use Rattle.row.specs.declared.Answered.the-variants as A
+use Rattle.row.specs.Answered.{answeredAs}
+use Rattle.text.specs.Text.{answerText}
+use Rattle.text.specs.Calls.{answerQuestions, rowCall, refusalCall}
 use borrow.Author.Needs.{needs}
 use Rattle.text.proofs.write_row.Statement.{statement}
 use Rattle.text.proofs.write_row.Tie as tie
 
--- past the questions
-abbrev start : tie.Else1 → tie.Start
-start c = c .before .before .before .before .before
+-- what is written of a case is written of the answer
+told : (o : Order) (plain undetected buffer : List ℕ) {after : List ℕ} {w : Answer ℕ} (a b : Answered) → a ≡ b
+    → _≡_ {A = Answer ℕ × List ℕ} (w, after) (rowCall o (answeredAs b) plain undetected buffer) → _≡_ {A = Answer ℕ × List ℕ} (w, after) (rowCall o (answeredAs a) plain undetected buffer)
+told o plain undetected buffer a b e h = h ∙ ap (λ (x : Answered). rowCall o (answeredAs x) plain undetected buffer) (sym e)
 
-abbrev Accepted : tie.Start → Type 0
-Accepted s =
-    let a = s .args in
-    RowAccepted (a .o .n) (a .o .d) (length (a .plain .now)) (length (a .undetected .now)) (length (a .buffer .now))
+told-refused : (o : Order) (plain undetected buffer : List ℕ) {after : List ℕ} {w : Answer ℕ} (a : Answered) (k : ℕ) → a ≡ A.Refused k
+    → _≡_ {A = Answer ℕ × List ℕ} (w, after) (refusalCall k buffer) → _≡_ {A = Answer ℕ × List ℕ} (w, after) (rowCall o (answeredAs a) plain undetected buffer)
+unfolding rowCall answerQuestions answerText refusalCall
+told-refused o plain undetected buffer a k e h = told o plain undetected buffer a (A.Refused k) e h
 
-accepted : (c : tie.Else1) → Accepted (start c)
-accepted c = row-accepted _ _ _ _ _ _ _ (c .before .ask-row .ensures) (c .if1 .left)
+enum-known-a : tie.Need-enum-known-a
+enum-known-a c = search needs
 
-ask-row-requires : tie.Need-ask-row-requires
-ask-row-requires c κs = search needs
+write-numbers-requires : tie.Need-write-numbers-requires
+write-numbers-requires c κs = search needs
 
-returns : tie.Need-returns
-unfolding rowCall orderIn
-returns c =
-    let a = c .before .before .before .before .before .args in
-    let ask = c .before .ask-row in
-    leaves-refused (a .buffer .now) _ (ask .result) _ (row-asked (a .o) _ _ _ _ (ask .ensures)) (c .if1 .taken)
+enum-known-a-2 : tie.Need-enum-known-a-2
+enum-known-a-2 c = search needs
 
-clear-bytes-requires : tie.Need-clear-bytes-requires
-clear-bytes-requires c κs = search needs
-
-put-row-requires : tie.Need-put-row-requires
-put-row-requires c κs =
-    let yes = accepted (c .before .before .before .before .before) in
-    record { at-most-4 = yes .at-most-4; counts = yes .counts; bytes = omega arith }
+write-refusal-requires : tie.Need-write-refusal-requires
+write-refusal-requires c κs = search needs
 
 same-length : tie.Need-same-length
 same-length c = search needs
 
+returns : tie.Need-returns
+returns c =
+    let call = c .before .before in
+    told _ _ _ _ _ _ (call .before .before .before .a .given .1) (call .write-numbers .ensures)
+
+same-length-2 : tie.Need-same-length-2
+same-length-2 c = search needs
+
 returns-2 : tie.Need-returns-2
-unfolding rowCall orderIn
 returns-2 c =
-    let clear = c .before .before .before .before .before .before in
-    let asked = clear .before .before in
-    let a = start asked .args in
-    let text = rowText (orderIn (a .o)) (a .events) (a .paths) (a .polynomial) (a .shared) (a .plain .now) (a .undetected .now) in
-    let none = sym (asked .if1 .left) ∙ row-asked (a .o) _ _ _ _ (asked .before .ask-row .ensures) in
-    written-as _ text (a .buffer .now) none (accepted asked .bytes) (clear .clear-bytes .ensures) (c .before .before .put-row .ensures)
+    let call = c .before .before in
+    told-refused _ _ _ _ _ _ (call .before .before .before .a2 .given .1) (call .write-refusal .ensures)
 
 pub write-row-spec : {M : Type 1} → statement M
-write-row-spec =
-    tie.close
-    (tie.spec ask-row-requires returns clear-bytes-requires put-row-requires same-length returns-2)
+write-row-spec = tie.close (tie.spec enum-known-a write-numbers-requires enum-known-a-2 write-refusal-requires same-length returns same-length-2 returns-2)

@@ -5,9 +5,8 @@ use crate::codes::{self, Input};
 use crate::guards::{entry_of, Guarded};
 use crate::random::Random;
 use crate::tally::Tally;
-use crate::{number, size};
-use dohvrin::calls::{self, Answer};
-use dohvrin::{Event, Link, WORK};
+use crate::{number, row_answer, size};
+use dohvrin::{calls, Event, Link, RowAnswer, WORK};
 use dso_ref::events;
 
 /// Entries of a table whose events the second tool lists for any order.
@@ -120,18 +119,15 @@ fn compare_tables(tally: &mut Tally, call: &Call, listed: &[dso_ref::Event], tab
 
 /// The call as C sees it, then the safe function.
 fn compare(tally: &mut Tally, call: &Call, expected: Expected) {
-    let refusal = expected.err().unwrap_or(0);
-    let value = expected.map_or(0, <[_]>::len);
-    let answer = Answer {
-        refusal,
-        value: value as u64,
-        ..Answer::default()
-    };
+    let told = expected.map(|listed| RowAnswer {
+        events: listed.len() as u64,
+        ..RowAnswer::default()
+    });
+    let answer = row_answer(told);
     let (raw, raw_left) = Lent::new(call).raw(call, expected);
     let (safe, safe_left) = Lent::new(call).safe(call, expected);
-    let plain = expected.map(<[_]>::len);
-    let same = raw == answer && safe == plain && raw_left && safe_left;
-    tally.count_of(call.input.version, refusal, same, || {
+    let same = raw == answer && safe == told && raw_left && safe_left;
+    tally.count_of(call.input.version, answer.refusal, same, || {
         format!(
             "{call:?}: library {raw:?} {safe:?}, second tool {answer:?}, \
              memory as it should be: {raw_left} {safe_left}"
@@ -153,13 +149,13 @@ impl Lent {
         }
     }
 
-    fn raw(mut self, call: &Call, expected: Expected) -> (Answer, bool) {
+    fn raw(mut self, call: &Call, expected: Expected) -> (RowAnswer, bool) {
         let (table, work) = (self.table.lent(), self.work.lent());
         let answer = calls::collect(call.input.below(call.d), table, work);
         (answer, self.is_left(expected))
     }
 
-    fn safe(mut self, call: &Call, expected: Expected) -> (Result<usize, u64>, bool) {
+    fn safe(mut self, call: &Call, expected: Expected) -> (Result<RowAnswer, u64>, bool) {
         let (table, work) = (self.table.lent(), self.work.lent());
         let answer = dohvrin::collect(call.input.below(call.d), table, work);
         (answer.map_err(|no| no.number()), self.is_left(expected))

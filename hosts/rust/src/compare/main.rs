@@ -26,6 +26,7 @@ mod tally;
 mod texts;
 
 use dohvrin::calls::Answer;
+use dohvrin::RowAnswer;
 use dso_ref::Refusal;
 use std::process::ExitCode;
 use tally::Tally;
@@ -136,6 +137,14 @@ fn word_answer<T>(plain: Result<T, u64>, values: impl FnOnce(T) -> Answer) -> An
             ..Answer::default()
         },
     }
+}
+
+/// The same of a row: what is told of it, or a refusal alone.
+fn row_answer(told: Result<RowAnswer, u64>) -> RowAnswer {
+    told.unwrap_or_else(|refusal| RowAnswer {
+        refusal,
+        ..RowAnswer::default()
+    })
 }
 
 /// A number as the second tool takes it.

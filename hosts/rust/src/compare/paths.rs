@@ -7,9 +7,8 @@ use crate::listed::{any_tables, draw, draw_size, draw_sizes, draw_small, Sizes, 
 use crate::listed::{EVENTS, PATHS};
 use crate::random::Random;
 use crate::tally::Tally;
-use crate::{number, size};
-use dohvrin::calls::{self, Listing};
-use dohvrin::{Event, Link, Listed, WORK};
+use crate::{number, row_answer, size};
+use dohvrin::{calls, Event, Link, RowAnswer, WORK};
 use dso_ref::{events, link, listing};
 
 /// Events and paths of an order of any length whose whole tables are compared.
@@ -171,7 +170,8 @@ fn large(tally: &mut Tally, input: Input, d: u64, events: usize, paths: usize) -
     assert!(right, "{input:?}: not the {paths} paths of the order");
     let mut table = vec![Event::default(); events];
     let collected = dohvrin::collect(input.below(d), &mut table, &mut [0; WORK]);
-    assert_eq!(collected, Ok(events), "{input:?}");
+    let collected = collected.map(|row| row.events);
+    assert_eq!(collected, Ok(events as u64), "{input:?}");
     let tables = Tables::new(input, d, table, listed);
     tables.count_again();
     compare_listed(tally, &tables, tables.sizes());
@@ -186,21 +186,17 @@ fn compare_listed(tally: &mut Tally, tables: &Tables, lent: Sizes) {
 
 /// The call as C sees it, then the safe function.
 fn compare(tally: &mut Tally, call: &Call, expected: Expected) {
-    let refusal = expected.err().unwrap_or(0);
-    let plain = expected.map(|tables| Listed {
-        events: tables.events.len(),
-        paths: tables.words.len(),
+    let told = expected.map(|tables| RowAnswer {
+        events: tables.events.len() as u64,
+        paths: tables.words.len() as u64,
+        ..RowAnswer::default()
     });
-    let answer = Listing {
-        refusal,
-        events: plain.map_or(0, |listed| listed.events as u64),
-        paths: plain.map_or(0, |listed| listed.paths as u64),
-    };
+    let answer = row_answer(told);
     let (raw, raw_left) = Lent::new(call.lent).raw(call, expected);
     let (safe, safe_left) = Lent::new(call.lent).safe(call, expected);
-    let same = raw == answer && safe == plain && raw_left && safe_left;
-    tally.count_lists(refusal, call.d, &[call.lent.counts]);
-    tally.count_of(call.input.version, refusal, same, || {
+    let same = raw == answer && safe == told && raw_left && safe_left;
+    tally.count_lists(answer.refusal, call.d, &[call.lent.counts]);
+    tally.count_of(call.input.version, answer.refusal, same, || {
         format!(
             "{call:?}: library {raw:?} {safe:?}, second tool {answer:?}, \
              memory as it should be: {raw_left} {safe_left}"
@@ -226,14 +222,14 @@ impl Lent {
         }
     }
 
-    fn raw(mut self, call: &Call, expected: Expected) -> (Listing, bool) {
+    fn raw(mut self, call: &Call, expected: Expected) -> (RowAnswer, bool) {
         let (events, paths) = (self.events.lent(), self.paths.lent());
         let (counts, work) = (self.counts.lent(), self.work.lent());
         let answer = calls::list(call.input.below(call.d), events, paths, counts, work);
         (answer, self.is_left(expected))
     }
 
-    fn safe(mut self, call: &Call, expected: Expected) -> (Result<Listed, u64>, bool) {
+    fn safe(mut self, call: &Call, expected: Expected) -> (Result<RowAnswer, u64>, bool) {
         let (events, paths) = (self.events.lent(), self.paths.lent());
         let (counts, work) = (self.counts.lent(), self.work.lent());
         let answer = dohvrin::list(call.input.below(call.d), events, paths, counts, work);

@@ -265,7 +265,7 @@ pub fn shorter_events(orders: u64) -> Tally {
 /// The events that the library collects, where they are not too many.
 fn collected(input: Input, d: u64) -> Option<Vec<Event>> {
     let mut table = vec![Event::default(); 4096];
-    let events = dohvrin::collect(input.below(d), &mut table, &mut [0; WORK]).ok()?;
-    table.truncate(events);
+    let row = dohvrin::collect(input.below(d), &mut table, &mut [0; WORK]).ok()?;
+    table.truncate(size(row.events));
     Some(table)
 }

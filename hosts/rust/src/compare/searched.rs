@@ -7,9 +7,8 @@ use crate::listed::{self, draw_counts, too_short, Tables};
 use crate::paths;
 use crate::random::Random;
 use crate::tally::Tally;
-use crate::{number, size};
-use dohvrin::calls::{self, Row};
-use dohvrin::{AnyOrder, Found, Listed};
+use crate::{number, row_answer, size};
+use dohvrin::{AnyOrder, RowAnswer};
 use dso_ref::quote::Quote;
 use dso_ref::search::{best, Best, Counter};
 use dso_ref::{events, questions, Order, Refusal};
@@ -127,21 +126,19 @@ pub fn within<'a>(call: &Call, tables: &'a Tables, best: &'a Best) -> Expected<'
 
 /// The call as C sees it, then the safe function.
 pub fn compare(tally: &mut Tally, call: &Call, expected: Expected) {
-    let answer = answer_of(call, expected);
-    let plain = match answer.refusal {
-        0 => Ok(Found {
-            events: size(answer.events),
-            paths: size(answer.paths),
-            polynomial: answer.polynomial,
-            shared: answer.shared,
-        }),
-        number => Err(number),
-    };
+    let told = expected.map(|(tables, best)| RowAnswer {
+        refusal: 0,
+        events: tables.told as u64,
+        paths: tables.words.len() as u64,
+        polynomial: best.smallest(),
+        shared: call.shared(best),
+    });
+    let answer = row_answer(told);
     let mut lent = Lent::new(call.lent);
     let raw = lent.raw(call);
     let (raw_left, as_fresh) = (lent.is_left(expected), lent.is_fresh(call, raw));
     let (safe, safe_left) = Lent::new(call.lent).safe(call, expected);
-    let same = raw == answer && safe == plain && raw_left && safe_left && as_fresh;
+    let same = raw == answer && safe == told && raw_left && safe_left && as_fresh;
     let lists = [call.lent.listing.counts, call.lent.undetected];
     tally.count_lists(answer.refusal, call.d, &lists);
     tally.count_shared(call.input.version, answer.shared);
@@ -151,24 +148,6 @@ pub fn compare(tally: &mut Tally, call: &Call, expected: Expected) {
              memory as it should be: {raw_left} {safe_left}, as a search leaves it: {as_fresh}"
         )
     });
-}
-
-/// The answer of a search or a quote; that of a count says as much, but for the
-/// polynomial and how many share its counts.
-fn answer_of(call: &Call, expected: Expected) -> Row {
-    match expected {
-        Err(refusal) => Row {
-            refusal,
-            ..Row::default()
-        },
-        Ok((tables, best)) => Row {
-            refusal: 0,
-            events: tables.told as u64,
-            paths: tables.words.len() as u64,
-            polynomial: best.smallest(),
-            shared: call.shared(best),
-        },
-    }
 }
 
 /// The five tables among guards.
@@ -195,28 +174,19 @@ impl Lent {
         }
     }
 
-    fn raw(&mut self, call: &Call) -> Row {
+    fn raw(&mut self, call: &Call) -> RowAnswer {
         let order = call.given();
         match call.asked {
-            Asked::Best => calls::search(order, self.lent()),
-            Asked::Quote(bits) => calls::quote(order, bits, self.lent()),
-            Asked::Of(polynomial) => {
-                let answer = calls::count(order, polynomial, self.lent());
-                Row {
-                    refusal: answer.refusal,
-                    events: answer.events,
-                    paths: answer.paths,
-                    polynomial: if answer.refusal == 0 { polynomial } else { 0 },
-                    shared: 0,
-                }
-            }
+            Asked::Best => self.lent().search(order),
+            Asked::Quote(bits) => self.lent().quote(order, bits),
+            Asked::Of(polynomial) => self.lent().count(order, polynomial),
         }
     }
 
     /// Whether a search for the length of a quote, with tables of the same sizes,
     /// answers and leaves the same; the event table is another one. It need not
     /// where the quote was refused by 13 or before.
-    fn is_fresh(&self, call: &Call, quoted: Row) -> bool {
+    fn is_fresh(&self, call: &Call, quoted: RowAnswer) -> bool {
         let (Asked::Quote(bits), 0 | 14) = (call.asked, quoted.refusal) else {
             return true;
         };
@@ -225,7 +195,7 @@ impl Lent {
             bits,
             ..call.given()
         };
-        let answer = calls::search(order, fresh.lent());
+        let answer = fresh.lent().search(order);
         let (ours, theirs) = (&self.listing, &fresh.listing);
         answer == quoted
             && ours.paths == theirs.paths
@@ -234,20 +204,12 @@ impl Lent {
             && ours.work == theirs.work
     }
 
-    fn safe(mut self, call: &Call, expected: Expected) -> (Result<Found, u64>, bool) {
+    fn safe(mut self, call: &Call, expected: Expected) -> (Result<RowAnswer, u64>, bool) {
         let order = call.given();
         let answer = match call.asked {
             Asked::Best => dohvrin::search(order, self.lent()),
             Asked::Quote(bits) => dohvrin::quote(order, bits, self.lent()),
-            Asked::Of(polynomial) => {
-                let answer = dohvrin::count(order, polynomial, self.lent());
-                answer.map(|Listed { events, paths }| Found {
-                    events,
-                    paths,
-                    polynomial,
-                    shared: 0,
-                })
-            }
+            Asked::Of(polynomial) => dohvrin::count(order, polynomial, self.lent()),
         };
         (answer.map_err(|no| no.number()), self.is_left(expected))
     }

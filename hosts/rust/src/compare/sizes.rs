@@ -6,7 +6,7 @@ use crate::listed::draw_small;
 use crate::random::Random;
 use crate::size;
 use crate::tally::Tally;
-use dohvrin::{AnyOrder, Entries, Event, Listed, Order, Refusal, WORK};
+use dohvrin::{AnyOrder, Entries, Event, Order, Refusal, WORK};
 
 /// The bytes of both tables of an order of longer words, at most.
 const LONG_TABLES: usize = 1 << 20;
@@ -60,7 +60,7 @@ fn compare(tally: &mut Tally, input: &Input, d: u64, needed: Entries) {
     if input.bits == input.v {
         tally.count_kind("of orders of N = v");
     }
-    let all = Ok(Listed { events, paths });
+    let all = Ok(needed);
     let version = input.version;
     tally.count_of(version, 0, listed == all, || told(input, d, needed, listed));
     let short = list(input, d, events.saturating_sub(1), paths);
@@ -73,14 +73,18 @@ fn compare(tally: &mut Tally, input: &Input, d: u64, needed: Entries) {
     }
 }
 
-fn told(input: &Input, d: u64, needed: Entries, listed: Result<Listed, Refusal>) -> String {
+fn told(input: &Input, d: u64, needed: Entries, listed: Result<Entries, Refusal>) -> String {
     format!("{input:?} d {d}: counted {needed}, library {listed:?}")
 }
 
-/// What the library lists into tables of so many entries.
-fn list(input: &Input, d: u64, events: usize, paths: usize) -> Result<Listed, Refusal> {
+/// How many the library lists into tables of so many entries.
+fn list(input: &Input, d: u64, events: usize, paths: usize) -> Result<Entries, Refusal> {
     let mut table = vec![Event::default(); events];
     let (mut numbers, mut counts) = (vec![0; 2 * paths], vec![0; size(d) - 1]);
     let work = &mut [0; WORK];
-    dohvrin::list(input.below(d), &mut table, &mut numbers, &mut counts, work)
+    let row = dohvrin::list(input.below(d), &mut table, &mut numbers, &mut counts, work)?;
+    Ok(Entries {
+        events: size(row.events),
+        paths: size(row.paths),
+    })
 }

@@ -6,7 +6,7 @@ use crate::random::Random;
 use crate::tally::Tally;
 use crate::{number, size};
 use dohvrin::calls::{self, Answer};
-use dohvrin::{AnyOrder, Found, TEXT};
+use dohvrin::{AnyOrder, RowAnswer, TEXT};
 use dso_ref::print::Printed;
 use dso_ref::{questions, Refusal};
 
@@ -22,34 +22,43 @@ const RETIRED: &str = "of number 15";
 const NOBODY: &str = "that nobody was compared with";
 const GREATEST: &str = "that 2^64 - 1 share";
 
-/// What the text of a row is made of: the order; events, paths, polynomial and how
-/// many share its counts; both counts.
+/// Rows with a refusal in them, whose order is refused where it is one of none.
+const REFUSED: &str = "of refusals";
+const OF_NO_ROW: &str = "of refusals of an order that has no row";
+
+/// What the text of a row is made of: the order, what a call told, both counts.
 #[derive(Clone, Debug)]
 struct Input {
     order: AnyOrder,
-    found: [u64; 4],
+    row: RowAnswer,
     plain: Vec<u64>,
     undetected: Vec<u64>,
 }
 
 impl Input {
-    fn found(&self) -> Found {
-        let [events, paths, polynomial, shared] = self.found;
-        Found {
-            events: size(events),
-            paths: size(paths),
-            polynomial,
-            shared,
+    /// The text: of a refusal, after question 10 about the room alone; else of the
+    /// row.
+    fn text(&self, room: usize) -> Result<String, u64> {
+        match self.row.refusal {
+            0 => self.row_text(room),
+            _ if room < TEXT => Err(10),
+            number => Ok(refusal_line(number)),
         }
     }
 
-    /// The text, after questions 2, 3, 7 and 10.
-    fn text(&self, room: usize) -> Result<String, u64> {
+    /// The text of the row, after questions 2, 3, 7 and 10.
+    fn row_text(&self, room: usize) -> Result<String, u64> {
         let AnyOrder { v, bits, m, d, .. } = self.order;
         let numbers = [v, bits, m, d].map(size);
         let d = size(d);
         let generators = first(&self.order.generators, self.order.n);
-        let [events, paths, polynomial, shared] = self.found;
+        let RowAnswer {
+            events,
+            paths,
+            polynomial,
+            shared,
+            ..
+        } = self.row;
         questions::kind(self.order.version).map_err(number)?;
         questions::generator_count(generators.len()).map_err(number)?;
         questions::threshold(d).map_err(number)?;
@@ -81,28 +90,46 @@ pub fn row_text(inputs: u64) -> Tally {
     let mut tally = Tally::of_links("row_text", &[2, 3, 7, 10])
         .with_kind(NOBODY)
         .with_kind(GREATEST)
+        .with_kind(REFUSED)
+        .with_kind(OF_NO_ROW)
         .with_lists();
     for _ in 0..inputs {
         let i = draw(&mut random);
         let room = draw_room(&mut random);
         let expected = i.text(room);
         let refusal = expected.as_ref().err().copied().unwrap_or(0);
-        tally.count_lists(refusal, i.order.d, &[i.plain.len(), i.undetected.len()]);
-        let (order, found) = (i.order, i.found());
-        match found.shared {
-            0 if refusal == 0 => tally.count_kind(NOBODY),
-            u64::MAX if refusal == 0 => tally.count_kind(GREATEST),
-            _ => {}
+        if i.row.refusal == 0 {
+            tally.count_lists(refusal, i.order.d, &[i.plain.len(), i.undetected.len()]);
         }
+        if refusal == 0 {
+            count_kinds(&mut tally, &i, room);
+        }
+        let (order, row) = (i.order, i.row);
         let (plain, undetected) = (&i.plain, &i.undetected);
-        let raw = |text: &mut [u8]| calls::row_text(order, found, plain, undetected, text);
-        let safe = |text: &mut [u8]| dohvrin::row_text(order, found, plain, undetected, text);
+        let raw = |text: &mut [u8]| calls::row_text(order, row, plain, undetected, text);
+        let safe = |text: &mut [u8]| dohvrin::row_text(order, row, plain, undetected, text);
         let version = i.order.version;
         compare(&mut tally, version, room, expected, raw, safe, || {
             format!("{i:?}")
         });
     }
     tally
+}
+
+fn count_kinds(tally: &mut Tally, i: &Input, room: usize) {
+    match i.row {
+        RowAnswer { refusal: 1.., .. } => {
+            tally.count_kind(REFUSED);
+            if i.row_text(room).is_err() {
+                tally.count_kind(OF_NO_ROW);
+            }
+        }
+        RowAnswer { shared: 0, .. } => tally.count_kind(NOBODY),
+        RowAnswer {
+            shared: u64::MAX, ..
+        } => tally.count_kind(GREATEST),
+        _ => {}
+    }
 }
 
 pub fn refusal_text(inputs: u64) -> Tally {
@@ -207,6 +234,11 @@ fn draw(random: &mut Random) -> Input {
         (0..entries).map(|_| number(random)).collect()
     };
     let (plain, undetected) = (counts(random), counts(random));
+    let refusal = match random.within(0, 7) {
+        0 => random.within(1, 16),
+        1 => any(random),
+        _ => 0,
+    };
     Input {
         order: AnyOrder {
             version,
@@ -217,7 +249,13 @@ fn draw(random: &mut Random) -> Input {
             d,
             generators,
         },
-        found: [(); 4].map(|()| number(random)),
+        row: RowAnswer {
+            refusal,
+            events: number(random),
+            paths: number(random),
+            polynomial: number(random),
+            shared: number(random),
+        },
         plain,
         undetected,
     }

@@ -7,28 +7,23 @@ use native.Mathlib.Decide.{ℕ-discrete, decLe}
 use native.Mathlib.Omega.{arith}
 use mathlib.Core.Path.{_≡_, sym, ap, ap₂, _∙_, subst}
 use mathlib.Core.Logic.{_≢_}
-use mathlib.Core.Bool.{not}
 use mathlib.Core.List.{List, _++_, map}
 use lib.Arith.{digits-div}
-use lib.Dec.{T, leb, leb→le, le→leb, not-T}
 use lib.Pow.{pow-mono}
 use lib.ListN.{length, replicate, length-replicate, length-map}
 use Rattle.lists.specs.Lists.{padded, cleared}
-use Rattle.lists.proofs.Choices.{cond-true, cond-false}
 use Rattle.code.specs.Links.{stepsOf, eventStates}
 use Rattle.code.specs.Model.Steps.{mostSteps}
 use Rattle.code.proofs.Links.{few-steps, some-steps, states-le}
 use Rattle.order.specs.Order.{Order}
 use Rattle.order.specs.Questions.{workSize}
-use Rattle.order.specs.Answer.{Answer, accepted, refused}
 use Rattle.order.specs.Model.Accepted.{Accepted}
 use Rattle.events.specs.declared.Event.{Event}
 use Rattle.events.specs.Events.{entry, events, noEvent, eventTable}
 use Rattle.needed.specs.Model.Tables.{rowWords, tablesEnd, lengthAt, prepared, turned, Tables}
 use Rattle.collection.specs.declared.Node.{Node}
-use Rattle.collection.specs.declared.Collected.{Collected}
 use Rattle.collection.specs.Model.Backward.{found, appends, first, Walkable, Descent}
-use Rattle.collection.specs.Calls.{EventTables, eventTables, collectedAs, collected}
+use Rattle.collection.specs.Model.Gathered.{AllEvents, Gathered}
 use Rattle.needed.proofs.Places.{tables-inside}
 use Rattle.needed.proofs.Rows.{Filled}
 use Rattle.collection.proofs.Ready.{Ready, ready-tables}
@@ -237,45 +232,32 @@ module _ (j : Job) where
 
 -- ---- the answer
 
-module _ (o : Order) (table : List Event) (work : List ℕ) (zs : List Event) (at : ℕ) (e : (zs, at) ≡ appends (map entry (events o)) (replicate (length table) noEvent, 0)) where
-  abbrev t : EventTables
-  t = eventTables table work
-
+module _ (o : Order) (table : List Event) (zs : List Event) (at : ℕ) (e : (zs, at) ≡ appends (map entry (events o)) (replicate (length table) noEvent, 0)) where
   abbrev all : List Event
   all = map entry (events o)
 
   count-same : length all ≡ length (events o)
   count-same = length-map (events o) entry
 
-  pub answer-13 : length table < at → _≡_ {A = Answer ℕ × EventTables} (refused 13, eventTables (replicate (length table) noEvent) (replicate (length work) 0)) (collected o t)
-  unfolding collected cleared
-  answer-13 past = sym (cond-false (leb (length (events o)) (length table)) _ _ too-many)
-    where
-      too-many : T (not (leb (length (events o)) (length table)))
-      too-many = not-T (leb (length (events o)) (length table)) (λ t.
-          let fit : length (events o) ≤ length table = leb→le (length (events o)) (length table) t in
-          let same = count-same in
-          let listed = ap (λ (s : List Event × ℕ). s .1) (e ∙ all-fit noEvent (length table) all (omega arith)) in
-          absurd (omega arith))
+  too-many : length table < at → length table < length (events o)
+  too-many past = elim (decLe (length all) (length table)) [
+    | yes fit ↦ let listed = ap (λ (s : List Event × ℕ). s .1) (e ∙ all-fit noEvent (length table) all fit) in absurd (omega arith)
+    | no more ↦ let same = count-same in omega arith
+  ]
 
-  pub answer-listed : at ≤ length table → _≡_ {A = Answer ℕ × EventTables} (accepted at, eventTables zs (replicate (length work) 0)) (collected o t)
-  unfolding collected cleared eventTable
-  answer-listed inside =
-      let same = count-same in
-      let fit : length all ≤ length table = fits in
-      let both : _≡_ {A = List Event × ℕ} (zs, at) (padded (length table) noEvent all, length all) = e ∙ all-fit noEvent (length table) all fit in
-      (λ k. (accepted ((ap (λ (s : List Event × ℕ). s .1) both ∙ same) k), eventTables (ap (λ (s : List Event × ℕ). s .0) both k) (replicate (length work) 0)))
-      ∙ sym (cond-true (leb (length (events o)) (length table)) _ _ (le→leb (length (events o)) (length table) (omega arith)))
-    where
-      fits : length all ≤ length table
-      fits = elim (decLe (length all) (length table)) [
-        | yes h ↦ h
-        | no h ↦
-            let past : length table < appends all (replicate (length table) noEvent, 0) .1 = all-past noEvent (length table) all (omega arith) in
-            let is = ap (λ (s : List Event × ℕ). s .1) e in
-            absurd (omega arith)
-      ]
+  all-listed : at ≤ length table → AllEvents o table zs at
+  unfolding eventTable
+  all-listed inside = elim (decLe (length all) (length table)) [
+    | yes fit ↦
+        let same = count-same in
+        let both : _≡_ {A = List Event × ℕ} (zs, at) (padded (length table) noEvent all, length all) = e ∙ all-fit noEvent (length table) all fit in
+        record { fits = omega arith; number = ap (λ (s : List Event × ℕ). s .1) both ∙ same; table = ap (λ (s : List Event × ℕ). s .0) both }
+    | no more ↦
+        let past : length table < appends all (replicate (length table) noEvent, 0) .1 = all-past noEvent (length table) all (omega arith) in
+        let is = ap (λ (s : List Event × ℕ). s .1) e in
+        absurd (omega arith)
+  ]
 
--- an answer and tables that are known
-pub told-as : {r r′ : Collected} {z z′ : List Event} {w w′ : List ℕ} → r ≡ r′ → z ≡ z′ → w ≡ w′ → _≡_ {A = Answer ℕ × EventTables} (collectedAs r, eventTables z w) (collectedAs r′, eventTables z′ w′)
-told-as a b c = λ k. (collectedAs (a k), eventTables (b k) (c k))
+  pub gathered : (work left : List ℕ) → left ≡ replicate (length work) 0 → Gathered o table zs work left at
+  unfolding cleared
+  gathered work left zeros = record { inside = all-listed; past = too-many; zeros = zeros }

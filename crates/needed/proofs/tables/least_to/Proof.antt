@@ -39,7 +39,9 @@ least-requires-2 : tie.Need-least-requires-2
 least-requires-2 c κs = search needs
 
 returns-4 : tie.Need-returns-4
-returns-4 c = least-found _ _ _ _ _ _ _ _ (c .before .before .before .before .before .before .if1 .left) (c .before .before .before .before .before .if3 .left) (c .before .before .before .before .through .ensures) (c .before .before .through2 .ensures) (c .before .least .ensures) (c .least2 .ensures)
+returns-4 c =
+    let past = c .before .before .before .before in
+    least-found _ _ _ _ _ _ _ _ (past .before .before .if1 .left) (past .before .if3 .left) (past .through .ensures) (c .before .before .through2 .ensures) (c .before .least .ensures) (c .least2 .ensures)
 
 pub least-to-spec : {M : Type 1} → statement M
 least-to-spec =

@@ -33,7 +33,13 @@ least-to-requires : tie.Need-least-to-requires Inv-loop μ-loop
 least-to-requires c κs = record { tables = c .before .before .before .pre .tables; row = omega arith; state = omega arith }
 
 add-word : tie.Need-add-word Inv-loop μ-loop
-add-word c = let l = c .before .before .loop in let f = pack-fits _ _ _ (l .k) _ (l .word) (omega arith) (omega arith) (l .inv .1) in let a = c .before .before .before .before .args in let s = leastTo-small (a .work .now) (a .i) (a .t) (a .q * 8 + (l .k - 1)) in let e = c .least-to .ensures in omega arith
+add-word c =
+    let l = c .before .before .loop in
+    let a = c .before .before .before .before .args in
+    let f = pack-fits _ _ _ (l .k) _ (l .word) (omega arith) (omega arith) (l .inv .1) in
+    let s = leastTo-small (a .work .now) (a .i) (a .t) (a .q * 8 + (l .k - 1)) in
+    let e = c .least-to .ensures in
+    omega arith
 
 loop-less : tie.Need-loop-less Inv-loop μ-loop
 loop-less c = omega arith

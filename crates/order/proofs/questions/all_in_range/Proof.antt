@@ -37,7 +37,11 @@ returns : tie.Need-returns Inv-loop μ-loop
 returns c = let gs = c .before .before .before .before .args .generators .now in let l = c .before .before .before .loop in sym (l .inv .1 ∙ all-fails _ gs 0 (l .i) (omega arith) (zero-out-of-range _ _ (c .if1 .taken)))
 
 returns-2 : tie.Need-returns-2 Inv-loop μ-loop
-returns-2 c = let gs = c .before .before .before .before .before .args .generators .now in let l = c .before .before .before .before .loop in sym (l .inv .1 ∙ all-fails _ gs 0 (l .i) (omega arith) (large-out-of-range (c .before .before .before .before .before .args .v) _ (omega arith) (c .before .if1 .left) (c .if2 .taken)))
+returns-2 c =
+    let turn = c .before .before .before .before in
+    let a = turn .before .args in
+    let l = turn .loop in
+    sym (l .inv .1 ∙ all-fails _ (a .generators .now) 0 (l .i) (omega arith) (large-out-of-range (a .v) _ (omega arith) (c .before .if1 .left) (c .if2 .taken)))
 
 add-i : tie.Need-add-i Inv-loop μ-loop
 add-i c = omega arith
@@ -46,7 +50,11 @@ loop-less : tie.Need-loop-less Inv-loop μ-loop
 loop-less c = omega arith
 
 loop-again : tie.Need-loop-again Inv-loop μ-loop
-loop-again c = let gs = c .before .before .before .before .before .args .generators .now in let l = c .before .before .before .before .loop in (omega arith, l .inv .1 ∙ all-goes-on _ gs 0 (l .i) (omega arith) (in-range (c .before .before .before .before .before .args .v) _ (omega arith) (c .before .if1 .left) (c .if2 .left)))
+loop-again c =
+    let turn = c .before .before .before .before in
+    let a = turn .before .args in
+    let l = turn .loop in
+    (omega arith, l .inv .1 ∙ all-goes-on _ (a .generators .now) 0 (l .i) (omega arith) (in-range (a .v) _ (omega arith) (c .before .if1 .left) (c .if2 .left)))
 
 returns-3 : tie.Need-returns-3 Inv-loop μ-loop
 returns-3 c = let gs = c .before .before .args .generators .now in let l = c .before .loop in sym (l .inv .1 ∙ all-end _ gs 0 (l .i) (omega arith))

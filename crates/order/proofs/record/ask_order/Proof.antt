@@ -19,19 +19,17 @@ returns-2 c = refused-by-numbers _ _ _ (c .before .before .before .ask-shape .en
 
 ask-four-requires : tie.Need-ask-four-requires
 ask-four-requires c κs =
-    let shape = shape-of (c .before .before .before .before .args .takes) (c .before .before .before .before .args .o) _ (c .before .before .before .ask-shape .ensures) (c .before .before .if1 .left) in
+    let passed = c .before .before .before in
+    let a = passed .before .before .args in
+    let shape = shape-of (a .takes) (a .o) _ (passed .before .ask-shape .ensures) (passed .if1 .left) in
     (omega arith, shape .few-generators)
 
 returns-3 : tie.Need-returns-3
-returns-3 c = all-asked _ _ _ (c .before .before .before .before .ask-shape .ensures) (c .before .before .before .if1 .left) _ (c .before .before .ask-numbers .ensures) (c .before .if2 .left) _ (c .ask-four .ensures)
+returns-3 c =
+    let numbers = c .before .before .before in
+    let shape = numbers .before .before in
+    let four = c .ask-four .ensures in
+    all-asked _ _ _ (shape .ask-shape .ensures) (numbers .before .if1 .left) _ (numbers .ask-numbers .ensures) (c .before .before .if2 .left) _ (four .1) (four .0)
 
 pub ask-order-spec : {M : Type 1} → statement M
-ask-order-spec =
-    tie.close
-    (tie.spec
-    ask-shape-requires
-    returns
-    ask-numbers-requires
-    returns-2
-    ask-four-requires
-    returns-3)
+ask-order-spec = tie.close (tie.spec ask-shape-requires returns ask-numbers-requires returns-2 ask-four-requires returns-3)

@@ -27,11 +27,20 @@ count-right-requires c κs = search needs
 
 returns-3 : tie.Need-returns-3
 unfolding recordQuestions
-returns-3 c = sym (firstNo-yes _ _ (sym (c .before .before .before .before .before .length-right .ensures) ∙ not-false _ (c .before .before .before .before .if1 .left)) ∙ firstNo-yes _ _ (sym (c .before .before .before .version-right .ensures) ∙ not-false _ (c .before .before .if2 .left)) ∙ firstNo-no _ _ (sym (c .before .count-right .ensures) ∙ not-true _ (c .if3 .taken)))
+returns-3 c =
+    let past = c .before .before in
+    sym (firstNo-yes _ _ (sym (past .before .before .before .length-right .ensures) ∙ not-false _ (past .before .before .if1 .left))
+    ∙ firstNo-yes _ _ (sym (past .before .version-right .ensures) ∙ not-false _ (past .if2 .left))
+    ∙ firstNo-no _ _ (sym (c .before .count-right .ensures) ∙ not-true _ (c .if3 .taken)))
 
 returns-4 : tie.Need-returns-4
 unfolding recordQuestions
-returns-4 c = sym (firstNo-yes _ _ (sym (c .before .before .before .before .before .length-right .ensures) ∙ not-false _ (c .before .before .before .before .if1 .left)) ∙ firstNo-yes _ _ (sym (c .before .before .before .version-right .ensures) ∙ not-false _ (c .before .before .if2 .left)) ∙ firstNo-yes _ _ (sym (c .before .count-right .ensures) ∙ not-false _ (c .if3 .left)) ∙ firstNo-none)
+returns-4 c =
+    let past = c .before .before in
+    sym (firstNo-yes _ _ (sym (past .before .before .before .length-right .ensures) ∙ not-false _ (past .before .before .if1 .left))
+    ∙ firstNo-yes _ _ (sym (past .before .version-right .ensures) ∙ not-false _ (past .if2 .left))
+    ∙ firstNo-yes _ _ (sym (c .before .count-right .ensures) ∙ not-false _ (c .if3 .left))
+    ∙ firstNo-none)
 
 pub ask-record-spec : {M : Type 1} → statement M
 ask-record-spec =

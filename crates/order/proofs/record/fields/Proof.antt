@@ -1,5 +1,6 @@
 -- Each field at its place.
 -- Assumes nothing.
+use mathlib.Core.List.{[], _∷_}
 use Rattle.order.specs.Model.Fields.{fieldsOf}
 use borrow.Author.Needs.{needs}
 use Rattle.order.proofs.record.fields.Statement.{statement}
@@ -46,10 +47,7 @@ returns c =
       bits = gs .before .before .byte-at4 .ensures .0 i;
       m = gs .before .byte-at5 .ensures .0 i;
       d = gs .byte-at6 .ensures .0 i;
-      g1 = c .before .before .before .two-at .ensures i;
-      g2 = c .before .before .two-at2 .ensures i;
-      g3 = c .before .two-at3 .ensures i;
-      g4 = c .two-at4 .ensures i;
+      generators = c .before .before .before .two-at .ensures i ∷ c .before .before .two-at2 .ensures i ∷ c .before .two-at3 .ensures i ∷ c .two-at4 .ensures i ∷ [];
     }
 
 pub fields-spec : {M : Type 1} → statement M

@@ -1,0 +1,3 @@
+pub mod Plains
+pub mod Fits
+pub mod Answers
