@@ -57,6 +57,14 @@
   length: those of at most N' steps, in their order, are the events for N'. To
   quote N' is to make its row from the events for N.
 
+  A set is a list of 1 to 8 lengths, the longest first, that share one check
+  polynomial. The first undetected weight of a polynomial at a length is the
+  lowest weight from 1 to d - 1 of which it leaves a path undetected, or d where
+  there is none. Each length in turn keeps those of the polynomials still left
+  whose first undetected weight there is largest. Of those that the last one
+  leaves, the best at the longest length is the set's, and its row is that of the
+  longest length, in which `shared` counts those left alone.
+
   A program
   ---------
       #include <stdio.h>
@@ -102,9 +110,10 @@
   Refusals
   --------
   Every call answers every input. It asks the questions that concern what it
-  takes, in the order of the table, where 16 stands after 9, and the first no
-  is the refusal; 0 says that there was none. Of an order, weigh and encode do
-  not take m and d, collect and list do not take m: there they may be anything.
+  takes, in the order of the table, where 17 stands after 4 and 16 after 9, and
+  the first no is the refusal; 0 says that there was none. Of an order, weigh and encode do
+  not take m and d, collect and list do not take m, and a set does not take N:
+  there they may be anything.
   The one exception is row_text, which asks only 2, 3, 7 and 10: a row is
   printed as it is told, for an order that a call has accepted before; and of a
   refusal, which it prints as well, only 10, about the text. A refused call has
@@ -121,21 +130,28 @@
        3   Are there 2 to 4 generators: is n from 2 to 4? (In a     weigh encode
            record: is n there, too, and is the length 6 + 2n?)      collect list
                                                                     search quote
+                                                                    search_set
                                                                     count row_text
                                                                     read_order
        4   Is v from 1 to 8?                                        weigh encode
                                                                     collect list
                                                                     search quote
+                                                                    search_set
                                                                     count
                                                                     read_order
+      17   Has the list 1 to 8 lengths, each below the one before?  search_set
        5   Is N from v (from 1 where a call takes no v) to 128?     as 4, append
-           (For a quote: is N' from v to N, too?)                   strip test
+           (For a quote: is N' from v to N, too? For a set: is      strip test
+           every length?)
        6   Is m from 1 to 12 and below N? (For a quote: and below   append strip
-           N'?)                                                     test search
-                                                                    quote count
+           N'? For a set: below the shortest?)                      test search
+                                                                    quote
+                                                                    search_set
+                                                                    count
                                                                     read_order
        7   Is d from 1 to 64?                                       collect list
                                                                     search quote
+                                                                    search_set
                                                                     count row_text
                                                                     read_order
        8   Is every generator nonzero and below 2^(v+1)?            as 4
@@ -146,10 +162,12 @@
            of them, or n times N+v on a terminated link?
            Has the work area at least 8,192 numbers?                collect list
                                                                     search quote
+                                                                    search_set
                                                                     count
            Has each list of counts at least d - 1 entries?          list search
-                                                                    quote count
-                                                                    row_text
+                                                                    quote
+                                                                    search_set
+                                                                    count row_text
            Has the text at least 4,096 bytes?                       row_text
                                                                     refusal_text
            Is there a count of the weight, which is 1 or more, and
@@ -160,10 +178,13 @@
                                                                     test weigh
                                                                     encode
       13   Are there at most as many events as entries? (For a      collect list
-           quote: of those for N.)                                  search quote
+           quote: of those for N. For a set: of those for the       search quote
+           longest.)                                                search_set
                                                                     count
       14   Are there at most as many paths as pairs of numbers?     list search
-           (For a quote: of those for N'.)                          quote count
+           (For a quote: of those for N'. For a set: for every      quote
+           length.)                                                 search_set
+                                                                    count
 
   What the library counts on
   --------------------------
@@ -231,16 +252,17 @@ struct dohvrin_event {
 };
 
 /*
-  What collect, list, search, count and quote answer, and row_text takes: what a
-  row says beside its order and its counts. What a call does not tell is 0.
+  What collect, list, search, count, quote and search_set answer, and row_text
+  takes: what a row says beside its order and its counts. What a call does not tell is 0.
 */
 struct dohvrin_row {
     uint64_t refusal;    /* the number of the question that said no, or 0 */
     uint64_t events;     /* how many events the row has: after a quote the table may have more */
     uint64_t paths;      /* how many paths are in the path table; of collect 0 */
     uint64_t polynomial; /* the best polynomial, or the one given; of collect and list 0 */
-    uint64_t shared;     /* how many polynomials have its counts, it among them; 0 where it was
-                            compared with nobody: of collect, list and count */
+    uint64_t shared;     /* how many polynomials have its counts, it among them, after a set of
+                            those left; 0 where it was compared with nobody: of collect, list
+                            and count */
 };
 
 /* Where the paths of one weight stand in a path table. */
@@ -258,6 +280,9 @@ struct dohvrin_part {
 
 /* The entries of a list of counts that is long enough for every d: weights 1 to 63. */
 #define DOHVRIN_COUNTS 63
+
+/* The most lengths of a set. */
+#define DOHVRIN_LENGTHS 8
 
 /*
   Appends the remainder of a message f = high * 2^64 + low of K = bits - m bits
@@ -404,6 +429,32 @@ struct dohvrin_row dohvrin_quote(struct dohvrin_order order, uint64_t bits,
                                  size_t work_numbers);
 
 /*
+  Searches for the check polynomial of a set: of degree m, for words of each of
+  the lengths, the longest first, by the paths of weight below d. The order's
+  `bits` may be anything. Accepted: the answer has the set's polynomial, how many
+  of those left have its counts at the longest length, and how many events and
+  paths there are for that length. Event table, path table, both lists of counts,
+  the undetected ones of this polynomial, and work area are as dohvrin_search
+  leaves them for the longest length. Refusals 13, there are more events for the
+  longest length than entries, and 14, there are more paths for some length than
+  pairs of numbers: all five are 0 throughout. Other refusals: 2, 3, 4, 17
+  (length_count is not from 1 to DOHVRIN_LENGTHS, or a length is not below the
+  one before), 5 (a length is not from v to 128), 6 (m is not from 1 to 12 and
+  below the shortest), 7, 8, 9, 16, 10 (as of dohvrin_search); then all five are
+  as they were. For a list of one length all is as dohvrin_search has it for that
+  length. What they held before the call does not matter. The lengths are only
+  read. That the pointers have as many entries and numbers as is said, and that
+  none of the tables overlaps another or the lengths, cannot be checked.
+*/
+struct dohvrin_row dohvrin_search_set(struct dohvrin_order order, const uint64_t *lengths,
+                                      size_t length_count, struct dohvrin_event *events,
+                                      size_t event_entries, uint64_t *paths,
+                                      size_t path_numbers, uint64_t *plain,
+                                      size_t plain_entries, uint64_t *undetected,
+                                      size_t undetected_entries, uint64_t *work,
+                                      size_t work_numbers);
+
+/*
   Counts the undetected paths of one polynomial of degree m, without a search.
   Accepted: the answer says how many events and paths there are, and has this
   polynomial; `shared` is 0, since it was compared with nobody. Tables and plain
@@ -429,11 +480,12 @@ struct dohvrin_row dohvrin_count(struct dohvrin_order order, uint64_t polynomial
   its bytes, which the text begins with; each line ends with a line feed, and
   the bytes after the last are 0. Nothing is computed, and the row is printed
   as it is told, for an order that a call has accepted before (after a quote,
-  that with N'): of all questions only 2, 3, 7, and 10 (plain_entries or
-  undetected_entries is below d - 1, or text_bytes is below DOHVRIN_TEXT) are
-  asked, and their refusals leave the text as it was. The other numbers may be
-  any. The counts are only read; that the pointers have as many as is said, and
-  that the text overlaps none of them, cannot be checked.
+  that with N', after a set, that with the longest length): of all questions only
+  2, 3, 7, and 10 (plain_entries or undetected_entries is below d - 1, or
+  text_bytes is below DOHVRIN_TEXT) are asked, and their refusals leave the text
+  as it was. The other numbers may be any. The counts are only read; that the
+  pointers have as many as is said, and that the text overlaps none of them,
+  cannot be checked.
 */
 struct dohvrin_answer dohvrin_row_text(struct dohvrin_order order, struct dohvrin_row row,
                                        const uint64_t *plain, size_t plain_entries,
@@ -513,6 +565,18 @@ static inline struct dohvrin_row dohvrin_quote_in(struct dohvrin_order order, ui
                          tables.path_numbers, tables.plain, tables.plain_entries,
                          tables.undetected, tables.undetected_entries, tables.work,
                          tables.work_numbers);
+}
+
+/* dohvrin_search_set in these tables. */
+static inline struct dohvrin_row dohvrin_search_set_in(struct dohvrin_order order,
+                                                       const uint64_t *lengths,
+                                                       size_t length_count,
+                                                       struct dohvrin_tables tables)
+{
+    return dohvrin_search_set(order, lengths, length_count, tables.events, tables.event_entries,
+                              tables.paths, tables.path_numbers, tables.plain,
+                              tables.plain_entries, tables.undetected,
+                              tables.undetected_entries, tables.work, tables.work_numbers);
 }
 
 /* dohvrin_count in these tables. */

@@ -13,13 +13,14 @@ mod orders;
 mod plain;
 mod programs;
 mod quotes;
+mod sets;
 mod small;
 mod turns;
 mod words;
 
 use dohvrin::Link;
 use lent::Lent;
-use orders::{Order, BY_D, BY_N, LONG, MIDDLE, QUOTES, TABLE_1, TABLE_2, TERMINATED};
+use orders::{Order, BY_D, BY_N, LONG, MIDDLE, QUOTES, SETS, TABLE_1, TABLE_2, TERMINATED};
 use std::fmt::Debug;
 use std::process::ExitCode;
 use turns::{shown, time, Turns};
@@ -36,6 +37,7 @@ fn main() -> ExitCode {
         [] => {
             searches(7);
             shorter(21);
+            several(7);
             runs(7);
             listings(7);
             collections(15, 101);
@@ -46,6 +48,7 @@ fn main() -> ExitCode {
         ["--quick"] => {
             searches(1);
             shorter(3);
+            several(1);
             runs(1);
             collections(1, 11);
             calls(11);
@@ -53,9 +56,10 @@ fn main() -> ExitCode {
             small::slowest(50);
         }
         ["--quotes"] => shorter(101),
+        ["--sets"] => several(21),
         ["--words"] => calls(301),
         _ => {
-            eprintln!("usage: bench/run [--quick | --quotes | --words]");
+            eprintln!("usage: bench/run [--quick | --quotes | --sets | --words]");
             return ExitCode::from(2);
         }
     }
@@ -80,6 +84,19 @@ fn shorter(turns: usize) {
         let name = format!("{name} · quoted at {}", quote.short.bits);
         row(&name, paths, &times.whole);
         row("its listing alone", paths, &times.listing);
+    }
+}
+
+/// One polynomial for several lengths.
+fn several(turns: usize) {
+    let sides = ["set", "searches"];
+    let title = "One polynomial for a set of lengths, beside a search for each of them";
+    head(title, "paths", sides);
+    for set in SETS {
+        let (paths, times) = sets::beside_the_searches(turns, set);
+        let lengths: Vec<String> = set.lengths.iter().map(u64::to_string).collect();
+        let name = format!("{} · at {}", name_of(&set.order), lengths.join(", "));
+        row(&name, paths, &times);
     }
 }
 

@@ -1,5 +1,6 @@
 //! The orders that are timed, and how many events and paths they have.
 
+use crate::sets::Set;
 use dohvrin::{AnyOrder, Link};
 use dso_ref::link::Code;
 
@@ -118,6 +119,41 @@ pub const QUOTES: [Quote; 3] = [
             paths: 655_649,
             ..TABLE_2
         },
+    },
+];
+
+/// Eight lengths of several codes, and one.
+pub const SETS: [Set; 7] = [
+    Set {
+        order: LONG,
+        lengths: &[128, 112, 100, 88, 76, 64, 52, 40],
+    },
+    Set {
+        order: MIDDLE,
+        lengths: &[70, 64, 58, 52, 46, 40, 34, 28],
+    },
+    Set {
+        order: Order { d: 16, ..TABLE_2 },
+        lengths: &[76, 70, 64, 58, 52, 46, 40, 34],
+    },
+    Set {
+        order: Order {
+            d: 16,
+            ..TERMINATED[0]
+        },
+        lengths: &[70, 64, 58, 52, 46, 40, 34, 28],
+    },
+    Set {
+        order: TABLE_1,
+        lengths: &[70],
+    },
+    Set {
+        order: LONG,
+        lengths: &[128],
+    },
+    Set {
+        order: TABLE_2,
+        lengths: &[76],
     },
 ];
 

@@ -4,7 +4,8 @@
   collects the events of each and prints the first of them, lists its paths
   (how many there are of each weight, and the heaviest of them), counts those
   that pass the check unseen, and prints the row of the best polynomial. At last
-  it quotes the row of the next shorter length from the same order's events.
+  it quotes the row of the next shorter length from the same order's events, and
+  prints the row of the polynomial for both lengths.
   Without arguments it takes the eight records below.
 */
 #include <inttypes.h>
@@ -237,6 +238,15 @@ static void print_quote(struct dohvrin_order order)
         printf("  events in the table, for N %" PRIu64 ": %zu\n", order.bits, listed_events());
 }
 
+/* The row for N of the polynomial that serves N and N - 1. */
+static void print_set(struct dohvrin_order order)
+{
+    const uint64_t lengths[] = {order.bits, order.bits - 1};
+
+    printf("  for N %" PRIu64 " and %" PRIu64 "\n", lengths[0], lengths[1]);
+    print_row(order, dohvrin_search_set_in(order, lengths, 2, tables));
+}
+
 static int run_record(const char *hex)
 {
     uint8_t bytes[MOST_BYTES];
@@ -267,6 +277,7 @@ static int run_record(const char *hex)
     print_undetected(order);
     print_row(order, dohvrin_search_in(order, tables));
     print_quote(order);
+    print_set(order);
     return 1;
 }
 

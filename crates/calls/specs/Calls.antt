@@ -12,16 +12,18 @@ use Rattle.jobs.specs.declared.Job.{Job}
 use Rattle.jobs.specs.declared.Job.the-variants as J
 use Rattle.jobs.specs.Jobs.{SearchTables, ran}
 
--- a call: an order, for which events are collected; what the call takes of it; N, the bits of the row's words; and how far the call goes
+-- a call: an order, for which events are collected; what the call takes of it; N, the bits of the row's words; shorter lengths, where a polynomial is chosen
+-- for them too; and how far the call goes
 pub record Call : Type 0 where
   pub order : Order
   pub takes : Takes
   pub N : ℕ
+  pub shorter : List ℕ
   pub job : Job
 
 -- a row of the order's own length
 abbrev pub ofOwnLength : Takes → Job → Order → Call
-ofOwnLength takes job o = record { order = o; takes = takes; N = o .N; job = job }
+ofOwnLength takes job o = record { order = o; takes = takes; N = o .N; shorter = []; job = job }
 
 -- the order of the row
 abbrev pub orderOfRow : Call → Order
@@ -34,6 +36,7 @@ unfoldable pub jobQuestions : Job → (m entries plain undetected work : ℕ) �
 jobQuestions J.Collect m entries plain undetected work = room workSize work ∷ []
 jobQuestions J.List m entries plain undetected work = room entries plain ∷ room workSize work ∷ []
 jobQuestions J.Choose m entries plain undetected work = room entries plain ∷ room entries undetected ∷ room workSize work ∷ []
+jobQuestions J.ChooseFor m entries plain undetected work = room entries plain ∷ room entries undetected ∷ room workSize work ∷ []
 jobQuestions (J.Count p) m entries plain undetected work = room entries plain ∷ room entries undetected ∷ room workSize work ∷ checkPolynomial m p ∷ []
 
 -- of the order of the row, as far as the call takes it, and of how long the lists are; counts begin with weight 1
@@ -44,4 +47,4 @@ questions c plain undetected work = orderQuestions (c .takes) (orderOfRow c) ++ 
 
 unfoldable pub call : Call → SearchTables → Answer Row × SearchTables
 call c t =
-    unlessRefused (firstNo (questions c (length (t .plain)) (length (t .undetected)) (length (t .work)))) t (ran (c .job) (c .order) (orderOfRow c) t)
+    unlessRefused (firstNo (questions c (length (t .plain)) (length (t .undetected)) (length (t .work)))) t (ran (c .job) (c .shorter) (c .order) (orderOfRow c) t)

@@ -7,6 +7,7 @@ ghost use Rattle.order.specs.Questions.{firstNo, room, workSize, checkPolynomia
 ghost use Rattle.order.specs.Answer.{unlessRefused};
 ghost use Rattle.order.specs.Answers.{orderIn};
 ghost use Rattle.row.specs.Answered.{answeredAs};
+ghost use Rattle.lengths.specs.Shorter.{shorterIn};
 ghost use Rattle.jobs.specs.Jobs.{searchTables, ran};
 ghost use Rattle.jobs.specs.Model.Steps.{rowOrder, ToMake};
 ghost use Rattle.calls.specs.Calls.{jobQuestions, questions, call as called};
@@ -80,12 +81,13 @@ fn ask_job(job: Job, m: u64, entries: u64, plain: usize, undetected: usize, size
         Job::Collect => ask_work(size),
         Job::List => ask_counts(entries, plain, size),
         Job::Choose => ask_both(entries, plain, undetected, size),
+        Job::ChooseFor => ask_both(entries, plain, undetected, size),
         Job::Count(p) => ask_polynomial(entries, plain, undetected, size, m, p),
     }
 }
 
 // All questions of a plan before 13: the number of the first that says no, or 0.
-fn ask(plan: Plan, plain: usize, undetected: usize, size: usize) -> u64
+pub fn ask(plan: Plan, plain: usize, undetected: usize, size: usize) -> u64
     ensures { λ r. ⌜ r ≡ firstNo (questions (callIn plan) plain undetected size) ⌝ }
 {
     let takes = plan.takes;
@@ -119,7 +121,7 @@ pub fn run(
     work: &mut [u64],
 ) -> Answered
     requires { ⌜ (why ≡ 0 → ToMake plan (now plain) (now undetected) (now work)) ⌝ }
-    ensures { λ r. ⌜ (answeredAs r, searchTables (now (events .exit)) (now (paths .exit)) (now (plain .exit)) (now (undetected .exit)) (now (work .exit))) ≡ unlessRefused why (searchTables (now (events .entry)) (now (paths .entry)) (now (plain .entry)) (now (undetected .entry)) (now (work .entry))) (ran (plan .job) (orderIn (plan .order)) (rowOrder plan) (searchTables (now (events .entry)) (now (paths .entry)) (now (plain .entry)) (now (undetected .entry)) (now (work .entry)))) ⌝ }
+    ensures { λ r. ⌜ (answeredAs r, searchTables (now (events .exit)) (now (paths .exit)) (now (plain .exit)) (now (undetected .exit)) (now (work .exit))) ≡ unlessRefused why (searchTables (now (events .entry)) (now (paths .entry)) (now (plain .entry)) (now (undetected .entry)) (now (work .entry))) (ran (plan .job) (shorterIn (plan .shorter)) (orderIn (plan .order)) (rowOrder plan) (searchTables (now (events .entry)) (now (paths .entry)) (now (plain .entry)) (now (undetected .entry)) (now (work .entry)))) ⌝ }
 {
     if why != 0 {
         return refuse(why);

@@ -1,24 +1,34 @@
 -- Of any list of candidates with counts of one length: those that no candidate betters. There is one at least where there is a candidate, they all have
 -- the same counts, and every other candidate is worse than each of them.
 -- Assumes nothing.
-use Prim.Native.Nat.{ℕ, _<_}
-use mathlib.Core.Path.{_≡_, refl, sym, _∙_, subst}
-use mathlib.Core.Bool.{not}
+use Prim.Native.Nat.{ℕ, _≤_, _<_}
+use native.Mathlib.Omega.{arith}
+use mathlib.Core.Path.{_≡_, refl, sym, ap, _∙_, subst}
+use mathlib.Core.Bool.{Bool, true, false, not, _||_}
 use mathlib.Core.Logic.{_↔_, _⊎_, inl, inr, ⊎-elim}
-use mathlib.Core.List.{List, [], _∷_, List·Memᴰ, List·Memᴰ·head, List·Memᴰ·not-nil}
+use mathlib.Core.List.{List, [], _∷_, List·Memᴰ, List·Memᴰ·head, List·Memᴰ·not-nil, List·Memᴰ·cases-cons}
 use lib.Dec.{T, T-not}
 use lib.ListN.{length}
+use Rattle.lists.specs.Lists.{any}
+use Rattle.lists.proofs.Tests.{false-of-T-not}
+use Rattle.lists.proofs.Filters.{filter-one}
 use Rattle.lists.proofs.Member.{of-filter, in-filter, mem-not-any}
 use Rattle.lists.proofs.Sorted.{Sorted, filter-sorted}
 use Rattle.lists.proofs.Least.{Unbettered, some-unbettered}
 use Rattle.choice.specs.Choice.{fewer, unbettered, best, firstOf}
-use Rattle.choice.proofs.Fewer.{fewer-irreflexive, fewer-transitive, fewer-total}
+use Rattle.choice.proofs.Fewer.{not-itself, fewer-irreflexive, fewer-transitive, fewer-total}
 
 -- where there is a member, the first is one
 pub firstOf-member : {p : ℕ} (l : List ℕ) → List·Memᴰ p l → List·Memᴰ (firstOf l) l
 unfolding firstOf
 firstOf-member [] member = absurd (List·Memᴰ·not-nil member)
 firstOf-member (q ∷ l) member = List·Memᴰ·head refl
+
+-- the first of a list in order is the least
+pub first-least : (l : List ℕ) → Sorted _<_ l → (q : ℕ) → List·Memᴰ q l → firstOf l ≤ q
+unfolding firstOf
+first-least [] sorted q member = absurd (List·Memᴰ·not-nil member)
+first-least (p ∷ l) sorted q member = ⊎-elim (λ e. omega arith) (λ later. omega (arith, sorted .0 q later)) (List·Memᴰ·cases-cons member)
 
 module _ (counts : ℕ → List ℕ) (ps : List ℕ) where
   -- ---- who is left
@@ -72,3 +82,9 @@ module _ (counts : ℕ → List ℕ) (ps : List ℕ) where
     best-share p q m r =
         let h = of-best q r in
         ⊎-elim (λ e. e) (λ b. absurd (T-not (fewer (counts p) (counts q)) (h .1 p (of-best p m .0)) b)) (every-other-worse p q m (h .0))
+
+-- one alone is the best
+pub best-alone : (counts : ℕ → List ℕ) (p : ℕ) → best counts (p ∷ []) ≡ p ∷ []
+unfolding best unbettered any
+best-alone counts p =
+    filter-one (unbettered counts (p ∷ [])) p true (ap (λ (b : Bool). not (b || false)) (false-of-T-not (fewer (counts p) (counts p)) (not-itself (counts p))))

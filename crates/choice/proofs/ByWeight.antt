@@ -9,33 +9,13 @@ use mathlib.Core.Logic.{_↔_}
 use mathlib.Core.List.{_∷_, map}
 use lib.ListN.{length, getD}
 use Rattle.lists.specs.Lists.{upFrom}
-use Rattle.lists.proofs.Lengths.{getD-map-upFrom, length-map-upFrom}
-use Rattle.order.specs.Order.{Order, ofWeight}
+use Rattle.order.specs.Order.{Order}
 use Rattle.order.specs.Model.Accepted.{AcceptedCode}
 use Rattle.paths.specs.Paths.{weights}
 use Rattle.paths.proofs.FromOne.{none-of-weight-0}
 use Rattle.undetected.specs.Undetected.{undetectedCount, undetectedCounts}
-use Rattle.undetected.proofs.Undetected.{undetected-le-plain}
+use Rattle.undetected.proofs.Undetected.{undetected-le-plain, undetected-count-at}
 use Rattle.choice.specs.Best.{LowestFewer}
-
--- ---- the counts of one polynomial
-
-module _ (o : Order) where
-  pub length-undetectedCounts : (p : ℕ) → length (undetectedCounts o p) ≡ o .d - 1
-  unfolding undetectedCounts weights
-  length-undetectedCounts p = length-map-upFrom (undetectedCount o p) 1 (o .d - 1)
-
-  -- entry k is of weight k + 1
-  undetected-count-at : (p k : ℕ) → k < o .d - 1 → getD (undetectedCounts o p) k 0 ≡ undetectedCount o p (1 + k)
-  unfolding undetectedCounts weights
-  undetected-count-at p k h = getD-map-upFrom (undetectedCount o p) 1 (o .d - 1) k 0 h
-
--- weight w is entry w - 1
-pub undetected-of-weight : (o : Order) (p w : ℕ) → 1 ≤ w → w < o .d → ofWeight w (undetectedCounts o p) ≡ undetectedCount o p w
-unfolding ofWeight
-undetected-of-weight o p w some h =
-    let e : 1 + (w - 1) ≡ w = omega arith in
-    undetected-count-at o p (w - 1) (omega arith) ∙ ap (undetectedCount o p) e
 
 module _ (o : Order) (acc : AcceptedCode o) where
   pub none-undetected : (p : ℕ) → undetectedCount o p 0 ≡ 0

@@ -60,18 +60,19 @@ module _ (m : ℕ) (positive : 1 ≤ m) where
   degree-of : (p k n : ℕ) → n ≡ 2 ^ (m - 1) → k < n → p ≡ 2 ^ m + 2 * k + 1 → p / 2 ^ m ≡ 1
   degree-of p k n all h e = ap (λ x. x / 2 ^ m) e ∙ numbered k (omega arith) .0
 
-  numberOf : (p : ℕ) → IsCandidate m p → CandidateNumber m p
-  numberOf p c =
+  -- the number of a candidate
+  pub number-is : (p : ℕ) → IsCandidate m p → ((p - 2 ^ m) / 2 < 2 ^ (m - 1)) × (2 ^ m + 2 * ((p - 2 ^ m) / 2) + 1 ≡ p)
+  number-is p c =
       let twice = twice-half-power m positive in
       let whole : 1 * 2 ^ m + p % 2 ^ m ≡ p = rw (c .0) at (div-add-mod' p (2 ^ m)) in
       let rest : p % 2 ^ m < 2 ^ m = mod-lt p (one-le-pow m 2 (omega arith)) in
-      record { k = (p - 2 ^ m) / 2; below = omega arith; named = omega arith }
+      (omega arith, omega arith)
 
   pub of-candidates : (p : ℕ) → List·Memᴰ p (candidates m) → IsCandidate m p
   of-candidates p member = let h = candidate-number m p member in subst (IsCandidate m) (h .named) (numbered (h .k) (h .below))
 
   pub in-candidates : (p : ℕ) → IsCandidate m p → List·Memᴰ p (candidates m)
-  in-candidates p c = let h = numberOf p c in Memᴰ·cast (sym (h .named)) (candidate-member m (h .k) (h .below))
+  in-candidates p c = let h = number-is p c in Memᴰ·cast (sym (h .1)) (candidate-member m ((p - 2 ^ m) / 2) (h .0))
 
   pub mem-candidates : (p : ℕ) → List·Memᴰ p (candidates m) ↔ IsCandidate m p
   mem-candidates p = (of-candidates p, in-candidates p)

@@ -5,24 +5,18 @@ use Prim.Native.Nat.{ℕ, _-_, _≤_, _<_}
 use native.Mathlib.Omega.{arith}
 use mathlib.Core.Path.{_≡_, refl, sym, _∙_, ap, subst}
 use mathlib.Core.Logic.{_↔_, _≢_, ⊎-elim}
-use mathlib.Core.List.{List, [], _∷_, List·Memᴰ, List·Memᴰ·not-nil, List·Memᴰ·cases-cons}
+use mathlib.Core.List.{List, List·Memᴰ}
 use lib.Dec.{T, not-T}
 use lib.ListN.{length}
 use Rattle.lists.proofs.Sorted.{Sorted, sorted-unique}
 use Rattle.order.specs.Order.{Order}
 use Rattle.undetected.specs.Undetected.{undetectedCounts}
+use Rattle.undetected.proofs.Undetected.{length-undetectedCounts}
 use Rattle.choice.specs.Choice.{candidates, fewer, best, firstOf, Choice, choiceAmong, choice}
 use Rattle.choice.specs.Best.{IsCandidate, LowestLess, FirstBest, BestOf}
 use Rattle.choice.proofs.Fewer.{lowest-of-fewer, fewer-of-lowest, fewer-irreflexive, fewer-asymmetric}
 use Rattle.choice.proofs.Candidates.{mem-candidates, candidates-sorted, some-candidate}
-use Rattle.choice.proofs.Best.{firstOf-member, of-best, in-best, best-sorted, best-nonempty, every-other-worse, best-share, best-of-same}
-use Rattle.choice.proofs.ByWeight.{length-undetectedCounts}
-
--- the first of a list in order is the least
-first-least : (l : List ℕ) → Sorted _<_ l → (q : ℕ) → List·Memᴰ q l → firstOf l ≤ q
-unfolding firstOf
-first-least [] sorted q member = absurd (List·Memᴰ·not-nil member)
-first-least (p ∷ l) sorted q member = ⊎-elim (λ e. omega arith) (λ later. omega (arith, sorted .0 q later)) (List·Memᴰ·cases-cons member)
+use Rattle.choice.proofs.Best.{firstOf-member, first-least, of-best, in-best, best-sorted, best-nonempty, every-other-worse, best-share, best-of-same}
 
 -- ---- of any candidates, which are the members of a list in order
 

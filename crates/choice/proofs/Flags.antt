@@ -33,12 +33,6 @@ dropped-more k alive left e = rw (e, add-one, put-down k alive)
 pub dropped-all : (j k : ℕ) (alive now : List Bool) → j ≡ k → now ≡ dropped j alive → now ≡ dropped k alive
 dropped-all j k alive now h e = e ∙ ap (λ (i : ℕ). dropped i alive) h
 
-pub length-dropped : (k : ℕ) (alive : List Bool) → length (dropped k alive) ≡ length alive
-unfolding dropped
-length-dropped zero alive = refl
-length-dropped (suc k) [] = refl
-length-dropped (suc k) (b ∷ alive) = ap suc (length-dropped k alive)
-
 pub dropped-before : (k j : ℕ) (alive : List Bool) → j < k → getD (dropped k alive) j false ≡ false
 unfolding dropped
 dropped-before zero j alive h = absurd (omega arith)
@@ -52,6 +46,11 @@ dropped-after zero j alive h = refl
 dropped-after (suc k) j [] h = refl
 dropped-after (suc k) zero (b ∷ alive) h = absurd (omega arith)
 dropped-after (suc k) (suc j) (b ∷ alive) h = dropped-after k j alive (le-of-suc-le-suc h)
+
+pub put-down-at : (k : ℕ) (alive : List Bool) → getD (set alive k false) k false ≡ false
+put-down-at k [] = refl
+put-down-at zero (b ∷ alive) = refl
+put-down-at (suc k) (b ∷ alive) = put-down-at k alive
 
 -- ---- those that are up
 
@@ -68,7 +67,7 @@ module _ (alive : List Bool) (k : ℕ) where
       ∙ ap (λ (i : ℕ). filter up (upFrom 0 k) ++ filter up (i ∷ [])) (zero-add k)
       ∙ ap (λ (l : List ℕ). filter up (upFrom 0 k) ++ l) (filter-one up k b e)
 
-  below-up : getD alive k false ≡ true → aliveBelow alive (k + 1) ≡ aliveBelow alive k ++ (k ∷ [])
+  pub below-up : getD alive k false ≡ true → aliveBelow alive (k + 1) ≡ aliveBelow alive k ++ (k ∷ [])
   below-up e = below-more true e
 
   below-down : getD alive k false ≡ false → aliveBelow alive (k + 1) ≡ aliveBelow alive k
@@ -115,3 +114,13 @@ module _ (alive : List Bool) (k : ℕ) where
 
 pub counted-none : (alive : List Bool) → 0 ≡ length (aliveBelow alive 0)
 counted-none alive = sym (ap length (none-below alive))
+
+-- ---- none is up for a while
+
+pub none-between : (alive : List Bool) (k j : ℕ) → ((i : ℕ) → k ≤ i → i < k + j → getD alive i false ≡ false)
+    → aliveBelow alive (k + j) ≡ aliveBelow alive k
+none-between alive k zero none = let same : k + zero ≡ k = omega arith in ap (aliveBelow alive) same
+none-between alive k (suc j) none =
+    let more : k + suc j ≡ k + j + 1 = omega arith in
+    ap (aliveBelow alive) more ∙ below-down alive (k + j) (none (k + j) (omega arith) (omega arith))
+    ∙ none-between alive k j (λ i a b. none i a (omega arith))

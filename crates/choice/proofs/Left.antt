@@ -7,7 +7,7 @@ use lib.ListN.{length}
 use Rattle.order.specs.Order.{Order}
 use Rattle.undetected.specs.Undetected.{undetectedCounts}
 use Rattle.undetected.specs.Model.Steps.{dividedCounts}
-use Rattle.choice.specs.Choice.{candidates, best, firstOf, choiceAmong, choice}
+use Rattle.choice.specs.Choice.{best, firstOf, choiceAmong}
 use Rattle.choice.specs.Model.Steps.{leftOver, laid, Chose}
 use Rattle.choice.specs.declared.Outcome.{Outcome}
 
@@ -16,20 +16,22 @@ module _ (o : Order) where
   abbrev Counted : List ℕ → List ℕ → Type 0
   Counted table plain = (p : ℕ) → dividedCounts (o .m) table plain (o .d - 1) p ≡ undetectedCounts o p
 
-  left-is-best : (table plain : List ℕ) → Counted table plain → leftOver (o .m) table plain (o .d - 1) ≡ best (undetectedCounts o) (candidates (o .m))
-  unfolding leftOver
-  left-is-best table plain counted = ap (λ (counts : ℕ → List ℕ). best counts (candidates (o .m))) (fun-ext counted)
+  -- of any that are offered
+  module _ {ps table plain before after : List ℕ} {r : Outcome} (counted : Counted table plain)
+      (chose : Chose (o .m) (o .d - 1) ps table plain before after r) where
+    left-is-best : leftOver (o .m) ps table plain (o .d - 1) ≡ best (undetectedCounts o) ps
+    unfolding leftOver
+    left-is-best = ap (λ (counts : ℕ → List ℕ). best counts ps) (fun-ext counted)
 
-  module _ {table plain before after : List ℕ} {r : Outcome} (counted : Counted table plain)
-      (chose : Chose (o .m) (o .d - 1) table plain before after r) where
     -- the undetected list
     pub chosen-counts : after ≡ laid (undetectedCounts o (r .polynomial)) before
     chosen-counts =
-        let same = counted (firstOf (leftOver (o .m) table plain (o .d - 1))) ∙ ap (undetectedCounts o) (sym (chose .first)) in
+        let same = counted (firstOf (leftOver (o .m) ps table plain (o .d - 1))) ∙ ap (undetectedCounts o) (sym (chose .first)) in
         chose .listed ∙ ap (λ (counts : List ℕ). laid counts before) same
 
-    pub chosen-is-choice : record { polynomial = r .polynomial; shared = r .shared; undetected = undetectedCounts o (r .polynomial) } ≡ choice o
-    unfolding choice choiceAmong
+    pub chosen-is-choice :
+        record { polynomial = r .polynomial; shared = r .shared; undetected = undetectedCounts o (r .polynomial) } ≡ choiceAmong (undetectedCounts o) ps
+    unfolding choiceAmong
     chosen-is-choice =
-        let is = left-is-best table plain counted in
+        let is = left-is-best in
         ap₂ (λ (p k : ℕ). record { polynomial = p; shared = k; undetected = undetectedCounts o p }) (chose .first ∙ ap firstOf is) (chose .how-many ∙ ap length is)

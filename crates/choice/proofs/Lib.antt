@@ -4,6 +4,7 @@ pub mod Best
 pub mod Chosen
 pub mod ByWeight
 mod Flags
+pub mod Offered
 mod Leader
 mod Remaining
 mod Weighed

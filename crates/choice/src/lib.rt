@@ -1,11 +1,12 @@
-// The choice: every candidate is compared with the best so far, weight by weight, and drops out at the first weight where another counts fewer. Weights go by
-// their entries in the lists of counts: entry j is of weight j + 1.
+// The choice: every candidate that is offered is compared with the best so far, weight by weight, and drops out at the first weight where another counts fewer.
+// Weights go by their entries in the lists of counts: entry j is of weight j + 1. Candidates go by their numbers, with a flag for each.
 // What is `pub` here is for the crate above; docs/DECISIONS.md lists it as internal.
 ghost use mathlib.Core.Path.{_≡_};
+ghost use mathlib.Core.List.{[], _∷_};
 ghost use Prim.Native.Nat.{_+_, _*_, _^_, _≤_};
 ghost use lib.ListN.{length};
 ghost use Rattle.choice.specs.Choice.{firstOf};
-ghost use Rattle.choice.specs.Model.Steps.{dropped, aliveBelow, LeftAlive, Chose, ToName, ToChoose, ToCompare};
+ghost use Rattle.choice.specs.Model.Steps.{offeredBy, dropped, aliveBelow, LeftAlive, Chose, ToName, ToOffer, ToChoose, ToCompare};
 use parity::check_table;
 use poly::word::power;
 use undetected::count_from;
@@ -18,11 +19,22 @@ pub struct Outcome {
 }
 
 // Candidate k of degree m: its constant term is 1.
-fn candidate(m: u64, k: usize) -> u64
+pub fn candidate(m: u64, k: usize) -> u64
     requires { ⌜ ToName m k ⌝ }
     ensures { λ r. ⌜ r ≡ 2 ^ m + 2 * k + 1 ⌝ }
 {
     power(m) + 2 * k as u64 + 1
+}
+
+// Just polynomial p is offered.
+pub fn only(m: u64, p: u64) -> [bool; 2048]
+    requires { ⌜ ToOffer m p ⌝ }
+    ensures { λ r. ⌜ offeredBy m r ≡ p ∷ [] ⌝ }
+{
+    let mut offered = [false; 2048];
+    let k = (p - power(m)) / 2;
+    offered[k as usize] = true;
+    offered
 }
 
 // Those before k drop out.
@@ -39,7 +51,7 @@ fn drop_before(alive: [bool; 2048], k: usize) -> [bool; 2048]
     left
 }
 
-// The candidates still alive after the last weight. The undetected list comes with the counts of candidate 0 and is left with the best.
+// Of those offered, the candidates still alive after the last weight. The undetected list comes with the counts of the first offered and is left with the best.
 fn compare(
     table: &[u64],
     plain: &[u64],
@@ -48,13 +60,20 @@ fn compare(
     m: u64,
     entries: usize,
     n: usize,
+    offered: [bool; 2048],
+    first: usize,
 ) -> [bool; 2048]
-    requires { ⌜ ToCompare bits entries m n (now table) (now plain) (now undetected) ⌝ }
-    ensures { λ r. ⌜ LeftAlive m entries (now (table .entry)) (now (plain .entry)) (now (undetected .entry)) (now (undetected .exit)) r ⌝ }
+    requires { ⌜ ToCompare bits entries m n offered first (now table) (now plain) (now undetected) ⌝ }
+    ensures { λ r.
+        ⌜ LeftAlive m entries (offeredBy m offered) (now (table .entry)) (now (plain .entry)) (now (undetected .entry)) (now (undetected .exit)) r ⌝ }
 {
-    let mut alive = [true; 2048];
-    let mut k = 1;
+    let mut alive = offered;
+    let mut k = first + 1;
     'candidates: while k < n {
+        if !alive[k] {
+            k += 1;
+            continue 'candidates;
+        }
         let p = candidate(m, k);
         let rows = check_table(bits, m, p);
         let mut at = 0;
@@ -113,8 +132,8 @@ fn first_alive(alive: &[bool; 2048], n: usize) -> usize
     0
 }
 
-// The best of all candidates of degree m, by the words of a path table and so many entries of the plain counts; where several share the best counts, the
-// smallest. The counts are left in the undetected list.
+// The best of the candidates of degree m that are offered, by the words of a path table and so many entries of the plain counts; where several share the best
+// counts, the smallest. The counts are left in the undetected list.
 pub fn choose(
     table: &[u64],
     plain: &[u64],
@@ -122,27 +141,40 @@ pub fn choose(
     bits: u64,
     m: u64,
     entries: usize,
+    offered: [bool; 2048],
 ) -> Outcome
-    requires { ⌜ ToChoose bits entries m (now table) (now plain) (now undetected) ⌝ }
-    ensures { λ r. ⌜ Chose m entries (now (table .entry)) (now (plain .entry)) (now (undetected .entry)) (now (undetected .exit)) r ⌝ }
+    requires { ⌜ ToChoose bits entries m offered (now table) (now plain) (now undetected) ⌝ }
+    ensures { λ r.
+        ⌜ Chose m entries (offeredBy m offered) (now (table .entry)) (now (plain .entry)) (now (undetected .entry)) (now (undetected .exit)) r ⌝ }
 {
     let n = power(m - 1) as usize;
+    let first = first_alive(&offered, n);
     count_from(
         table,
         plain,
         undetected,
         bits,
         m,
-        candidate(m, 0),
+        candidate(m, first),
         0,
         entries,
         0,
     );
-    let alive = compare(table, plain, undetected, bits, m, entries, n);
+    let alive = compare(
+        table,
+        plain,
+        undetected,
+        bits,
+        m,
+        entries,
+        n,
+        offered,
+        first,
+    );
     let shared = count_alive(&alive, n);
-    let first = first_alive(&alive, n);
+    let named = first_alive(&alive, n);
     Outcome {
-        polynomial: candidate(m, first),
+        polynomial: candidate(m, named),
         shared,
     }
 }

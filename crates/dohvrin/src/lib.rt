@@ -9,6 +9,7 @@ ghost use Rattle.code.specs.Calls.{weighCall, encodeCall};
 ghost use Rattle.jobs.specs.Jobs.{searchTables};
 ghost use Rattle.search.specs.Calls.{eventTables, pathTables, collectCall, listCall, searchCall, countCall};
 ghost use Rattle.quote.specs.Calls.{quoteCall};
+ghost use Rattle.set.specs.Calls.{setCall};
 ghost use Rattle.answers.specs.Answers.{numberAnswer, wordAnswer, told, toldWith, strippedAnswer, testedAnswer, numbered, rowWith, answerIn, partAnswer};
 use answers::HostAnswer;
 use answers::PartAnswer;
@@ -39,6 +40,7 @@ use search::collect;
 use search::count;
 use search::list;
 use search::search;
+use set::search_set;
 use text::write_refusal;
 use text::write_row;
 
@@ -163,6 +165,22 @@ pub extern "C" fn dohvrin_quote(
     ensures { λ r. ⌜ (r, searchTables (now (events .exit)) (now (paths .exit)) (now (plain .exit)) (now (undetected .exit)) (now (work .exit))) ≡ rowWith (quoteCall (orderIn order) bits (searchTables (now (events .entry)) (now (paths .entry)) (now (plain .entry)) (now (undetected .entry)) (now (work .entry)))) ⌝ }
 {
     answered(quote(order, bits, events, paths, plain, undetected, work))
+}
+
+// One check polynomial for a set of lengths, the longest first.
+#[no_mangle]
+pub extern "C" fn dohvrin_search_set(
+    order: OrderRecord,
+    lengths: &[u64],
+    events: &mut [Event],
+    paths: &mut [u64],
+    plain: &mut [u64],
+    undetected: &mut [u64],
+    work: &mut [u64],
+) -> RowAnswer
+    ensures { λ r. ⌜ (r, searchTables (now (events .exit)) (now (paths .exit)) (now (plain .exit)) (now (undetected .exit)) (now (work .exit))) ≡ rowWith (setCall (orderIn order) (now (lengths .entry)) (searchTables (now (events .entry)) (now (paths .entry)) (now (plain .entry)) (now (undetected .entry)) (now (work .entry)))) ⌝ }
+{
+    answered(search_set(order, lengths, events, paths, plain, undetected, work))
 }
 
 // The undetected counts of one polynomial.

@@ -3,10 +3,10 @@
 -- Assumes nothing.
 use Prim.Native.Nat.{ℕ, _-_}
 use mathlib.Core.Bool.{cond}
-use mathlib.Core.List.{List}
+use mathlib.Core.List.{List, [], _∷_}
 use lib.Dec.{leb}
 use lib.ListN.{length}
-use Rattle.lists.specs.Lists.{padded, cleared}
+use Rattle.lists.specs.Lists.{all, padded, cleared}
 use Rattle.order.specs.Order.{Order}
 use Rattle.order.specs.Answer.{Answer, accepted, refused}
 use Rattle.row.specs.declared.Row.{Row}
@@ -16,6 +16,8 @@ use Rattle.events.specs.Events.{events, noEvent, eventTable}
 use Rattle.paths.specs.Paths.{paths, plainCounts, pathTable, pathRoom}
 use Rattle.undetected.specs.Undetected.{undetectedCounts}
 use Rattle.choice.specs.Choice.{Choice, choice}
+use Rattle.narrowing.specs.Narrowed.{setChoice}
+use Rattle.lengths.specs.Shorter.{forEach}
 use Rattle.jobs.specs.declared.Job.{Job}
 use Rattle.jobs.specs.declared.Job.the-variants as J
 
@@ -35,15 +37,11 @@ searchTables es ps cs ds us = record { events = es; paths = ps; plain = cs; unde
 unfoldable pub clearedSearch : SearchTables → SearchTables
 clearedSearch t = searchTables (cleared noEvent (t .events)) (cleared 0 (t .paths)) (cleared 0 (t .plain)) (cleared 0 (t .undetected)) (cleared 0 (t .work))
 
--- 13: are there at most as many events as their table takes?
-unfoldable pub unlessTooManyEvents : {A L : Type 0} → Order → ℕ → L → Answer A × L → Answer A × L
-unlessTooManyEvents o entries zeros outcome = cond (leb (length (events o)) entries) outcome (refused 13, zeros)
-
--- 13 and 14: at most as many events, and paths? Events may be collected for a longer order than the one whose paths are listed (document 02, C-13);
--- else both are the same.
-unfoldable pub unlessTooMany : {A L : Type 0} → (longer o : Order) → (entries numbers : ℕ) → L → Answer A × L → Answer A × L
-unlessTooMany {A} {L} longer o entries numbers zeros outcome =
-    let pathsFit : Answer A × L = cond (leb (length (paths o)) (pathRoom numbers)) outcome (refused 14, zeros) in
+-- 13 and 14: at most as many events as their table takes, and paths, for each of these orders? Events may be collected for a longer order than those whose
+-- paths are listed (document 02, C-13 and C-17); else there is one of the same length.
+unfoldable pub unlessTooMany : {A L : Type 0} → (longer : Order) → (rows : List Order) → (entries numbers : ℕ) → L → Answer A × L → Answer A × L
+unlessTooMany {A} {L} longer rows entries numbers zeros outcome =
+    let pathsFit : Answer A × L = cond (all (λ o. leb (length (paths o)) (pathRoom numbers)) rows) outcome (refused 14, zeros) in
     cond (leb (length (events longer)) entries) pathsFit (refused 13, zeros)
 
 -- ---- an accepted call: the lists with zeros after them, and the work area zero
@@ -70,18 +68,27 @@ listed longer o t = (
   searchTables (eventTable (length (t .events)) longer) (pathTable (length (t .paths)) o) (padded (length (t .plain)) 0 (plainCounts o)) (t .undetected) (cleared 0 (t .work)),
 )
 
--- the row of an accepted order, its events collected for the longer one
-unfoldable pub searched : (longer o : Order) → SearchTables → Answer Row × SearchTables
-searched longer o t = unlessTooMany longer o (length (t .events)) (length (t .paths)) (clearedSearch t) (chosen longer o t (choice o))
-
 -- the counts of one polynomial, which was compared with nobody
 unfoldable pub counted : (longer o : Order) → ℕ → SearchTables → Answer Row × SearchTables
 counted longer o p t = chosen longer o t (record { polynomial = p; shared = 0; undetected = undetectedCounts o p })
 
 -- ---- what a job answers and leaves, for accepted orders
 
-unfoldable pub ran : Job → (longer o : Order) → SearchTables → Answer Row × SearchTables
-ran J.Collect longer o t = unlessTooManyEvents longer (length (t .events)) (clearedSearch t) (collected longer t)
-ran J.List longer o t = unlessTooMany longer o (length (t .events)) (length (t .paths)) (clearedSearch t) (listed longer o t)
-ran J.Choose longer o t = searched longer o t
-ran (J.Count p) longer o t = unlessTooMany longer o (length (t .events)) (length (t .paths)) (clearedSearch t) (counted longer o p t)
+-- the orders whose paths are listed: that of the row first. A polynomial may be chosen for shorter lengths too (document 02, C-17)
+unfoldable pub rowsOf : Job → (shorter : List ℕ) → Order → List Order
+rowsOf J.Collect shorter o = []
+rowsOf J.List shorter o = o ∷ []
+rowsOf J.Choose shorter o = o ∷ []
+rowsOf J.ChooseFor shorter o = o ∷ forEach shorter o
+rowsOf (J.Count p) shorter o = o ∷ []
+
+-- where all fit
+unfoldable pub made : Job → (shorter : List ℕ) → (longer o : Order) → SearchTables → Answer Row × SearchTables
+made J.Collect shorter longer o t = collected longer t
+made J.List shorter longer o t = listed longer o t
+made J.Choose shorter longer o t = chosen longer o t (choice o)
+made J.ChooseFor shorter longer o t = chosen longer o t (setChoice o (o .N ∷ shorter))
+made (J.Count p) shorter longer o t = counted longer o p t
+
+unfoldable pub ran : Job → (shorter : List ℕ) → (longer o : Order) → SearchTables → Answer Row × SearchTables
+ran job shorter longer o t = unlessTooMany longer (rowsOf job shorter o) (length (t .events)) (length (t .paths)) (clearedSearch t) (made job shorter longer o t)

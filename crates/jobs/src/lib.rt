@@ -5,18 +5,26 @@ ghost use Prim.Native.Nat.{_-_};
 ghost use lib.ListN.{length, replicate};
 ghost use Rattle.order.specs.Answers.{orderIn};
 ghost use Rattle.row.specs.Answered.{answeredAs};
-ghost use Rattle.undetected.specs.Model.Steps.{countedFrom, ToCount};
-ghost use Rattle.choice.specs.Model.Steps.{Chose, ToChoose};
+ghost use Rattle.choice.specs.Model.Steps.{offeredBy, Chose, ToChoose};
 ghost use Rattle.jobs.specs.Jobs.{searchTables};
-ghost use Rattle.jobs.specs.Model.Steps.{onlyEvents, rowOrder, Finished, ToFinish, ToMake, MadeAs};
+ghost use Rattle.jobs.specs.Model.Steps.{onlyEvents, rowOrder, listedBefore, LeftBy, Finished, ToFinish, ToMake, MadeAs};
+ghost use Rattle.narrowing.specs.Model.Firsts.{ToAdd};
 use choice::Outcome;
 use choice::choose;
+use choice::only;
 use code::link::steps_of;
 use collection::gather;
 use events::Event;
 use events::count_within;
 use filling::fill;
+use lengths::NONE_SHORTER;
+use lengths::Noted;
+use lengths::Shorter;
+use lengths::late_refusal;
+use lengths::list_shorter;
 use lists::clear_words;
+use narrowing::add_firsts;
+use narrowing::keep_largest;
 use order::questions::Takes;
 use order::questions::counted_weights;
 use order::record::OrderRecord;
@@ -24,21 +32,24 @@ use order::record::with_length;
 use row::Answered;
 use row::answer;
 use row::refuse;
-use undetected::count_from;
 
-// How far a call goes: events are collected; paths are listed too; then the best polynomial is chosen, or the words that one divides are counted.
+// How far a call goes: events are collected; paths are listed too; then the best polynomial is chosen, by the row's length alone or for shorter ones too, or
+// the words that one divides are counted.
 pub enum Job {
     Collect,
     List,
     Choose,
+    ChooseFor,
     Count(u64),
 }
 
-// A call: events are collected for the order, of which it takes so much; the row is for words of `bits` bits; and the job says how far it goes.
+// A call: events are collected for the order, of which it takes so much; the row is for words of `bits` bits; the job says how far it goes, and may be for
+// shorter lengths too.
 pub struct Plan {
     pub order: OrderRecord,
     pub takes: Takes,
     pub bits: u64,
+    pub shorter: Shorter,
     pub job: Job,
 }
 
@@ -66,13 +77,46 @@ fn only_events(plan: Plan) -> u64
         Job::Collect => 1,
         Job::List => 0,
         Job::Choose => 0,
+        Job::ChooseFor => 0,
         Job::Count(_p) => 0,
+    }
+}
+
+// The shorter lengths that are listed: those of the plan, where a polynomial is chosen for them.
+fn listed_before(plan: Plan) -> Shorter
+    ensures { λ r. ⌜ r ≡ listedBefore (plan .job) (plan .shorter) ⌝ }
+{
+    let job = plan.job;
+    let shorter = plan.shorter;
+    match job {
+        Job::Collect => NONE_SHORTER,
+        Job::List => NONE_SHORTER,
+        Job::Choose => NONE_SHORTER,
+        Job::ChooseFor => shorter,
+        Job::Count(_p) => NONE_SHORTER,
     }
 }
 
 // ---- what follows the listing
 
-// The best of the candidates by the words that were listed; its counts are left in the undetected list, with zeros after them.
+// Those left by the shorter lengths and by the one whose paths are listed.
+fn left_by(
+    noted: Noted,
+    paths: &[u64],
+    plain: &[u64],
+    bits: u64,
+    m: u64,
+    entries: u64,
+) -> [bool; 2048]
+    requires { ⌜ ToAdd bits entries m (now paths) (now plain) (noted .firsts) ⌝ }
+    ensures { λ r. ⌜ LeftBy m entries noted (now (paths .entry)) (now (plain .entry)) r ⌝ }
+{
+    let shorter = noted.firsts;
+    let firsts = add_firsts(shorter, paths, plain, bits, m, entries as usize);
+    keep_largest(firsts, m)
+}
+
+// The best of those offered by the words that were listed; its counts are left in the undetected list, with zeros after them.
 fn best_of(
     paths: &[u64],
     plain: &[u64],
@@ -80,42 +124,27 @@ fn best_of(
     bits: u64,
     m: u64,
     entries: u64,
+    offered: [bool; 2048],
 ) -> Outcome
-    requires { ⌜ ToChoose bits entries m (now paths) (now plain) (now undetected) ⌝ }
-    ensures { λ r. ⌜ Chose m entries (now (paths .entry)) (now (plain .entry)) (replicate (length (now (undetected .entry))) 0) (now (undetected .exit)) r ⌝ }
+    requires { ⌜ ToChoose bits entries m offered (now paths) (now plain) (now undetected) ⌝ }
+    ensures { λ r. ⌜ Chose m entries (offeredBy m offered) (now (paths .entry)) (now (plain .entry)) (replicate (length (now (undetected .entry))) 0) (now (undetected .exit)) r ⌝ }
 {
     clear_words(undetected);
-    choose(paths, plain, undetected, bits, m, entries as usize)
+    choose(paths, plain, undetected, bits, m, entries as usize, offered)
 }
 
-// The counts of p by the words that were listed, with zeros after them.
-fn counts_of(
-    paths: &[u64],
-    plain: &[u64],
-    undetected: &mut [u64],
-    bits: u64,
-    m: u64,
-    p: u64,
-    entries: u64,
-)
-    requires { ⌜ ToCount bits entries m p (now paths) (now plain) (now undetected) ⌝ }
-    ensures { λ _. ⌜ now (undetected .exit) ≡ countedFrom m p (now (paths .entry)) (now (plain .entry)) 0 entries (replicate (length (now (undetected .entry))) 0) ⌝ }
-{
-    clear_words(undetected);
-    count_from(paths, plain, undetected, bits, m, p, 0, entries as usize, 0);
-}
-
-// The job is done over the listed paths. A polynomial that is counted is compared with nobody: 0 share its counts.
+// The job is done over the listed paths. A polynomial that was given was compared with nobody: 0 share its counts.
 fn finish(
     plan: Plan,
+    noted: Noted,
     events: usize,
     listed: usize,
     paths: &[u64],
     plain: &[u64],
     undetected: &mut [u64],
 ) -> Answered
-    requires { ⌜ ToFinish (plan .job) (plan .bits) (plan .order .m) (plan .order .d - 1) (now paths) (now plain) (now undetected) ⌝ }
-    ensures { λ r. ⌜ Finished (plan .job) (plan .order .m) (plan .order .d - 1) events listed (now (paths .entry)) (now (plain .entry)) (now (undetected .entry)) (now (undetected .exit)) r ⌝ }
+    requires { ⌜ ToFinish (plan .job) (plan .bits) (plan .order .m) (plan .order .d - 1) noted (now paths) (now plain) (now undetected) ⌝ }
+    ensures { λ r. ⌜ Finished (plan .job) (plan .order .m) (plan .order .d - 1) noted events listed (now (paths .entry)) (now (plain .entry)) (now (undetected .entry)) (now (undetected .exit)) r ⌝ }
 {
     let order = plan.order;
     let entries = counted_weights(order.d);
@@ -124,12 +153,26 @@ fn finish(
         Job::Collect => answer(events, listed, 0, 0),
         Job::List => answer(events, listed, 0, 0),
         Job::Choose => {
-            let o = best_of(paths, plain, undetected, plan.bits, order.m, entries);
+            let o = best_of(
+                paths,
+                plain,
+                undetected,
+                plan.bits,
+                order.m,
+                entries,
+                [true; 2048],
+            );
             answer(events, listed, o.polynomial, o.shared)
         }
+        Job::ChooseFor => {
+            let left = left_by(noted, paths, plain, plan.bits, order.m, entries);
+            let fit = best_of(paths, plain, undetected, plan.bits, order.m, entries, left);
+            answer(events, listed, fit.polynomial, fit.shared)
+        }
         Job::Count(p) => {
-            counts_of(paths, plain, undetected, plan.bits, order.m, p, entries);
-            answer(events, listed, p, 0)
+            let just = only(order.m, p);
+            let alone = best_of(paths, plain, undetected, plan.bits, order.m, entries, just);
+            answer(events, listed, alone.polynomial, 0)
         }
     }
 }
@@ -158,11 +201,17 @@ pub fn make(
         return answer(n, 0, 0, 0);
     }
     let order = row_order(plan);
+    let shorter = listed_before(plan);
+    let noted = list_shorter(order, shorter, events, n, paths, plain, work);
+    let late = late_refusal(noted);
+    if late != 0 {
+        return refuse(14);
+    }
     let at = fill(order, events, n, paths, plain, work);
     if paths.len() / 2 < at {
         return refuse(14);
     }
     let steps = steps_of(order);
     let few = count_within(events, n, steps);
-    finish(plan, few, at, paths, plain, undetected)
+    finish(plan, noted, few, at, paths, plain, undetected)
 }

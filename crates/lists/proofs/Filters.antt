@@ -11,7 +11,7 @@ use mathlib.Core.Bool.{Bool, true, false, cond, not, _&&_}
 use mathlib.Core.List.{List, [], _∷_, _++_, map, flatMap, List·Memᴰ, List·Memᴰ·head, List·Memᴰ·tail}
 use lib.Dec.{T}
 use lib.ListN.{length}
-use Rattle.lists.specs.Lists.{upFrom, filter, count}
+use Rattle.lists.specs.Lists.{upFrom, filter, count, all}
 use Rattle.lists.proofs.Lengths.{length-filter-le, length-upFrom, upFrom-last}
 
 -- ---- which pass
@@ -47,6 +47,28 @@ module _ {A : Type 0} (f : A → Bool) where
   pub filter-one : (x : A) (b : Bool) → f x ≡ b → filter f (x ∷ []) ≡ cond b (x ∷ []) []
   unfolding filter
   filter-one x b e = ap (λ (c : Bool). cond c (x ∷ []) []) e
+
+  pub filter-all : (xs : List A) → ((x : A) → f x ≡ true) → filter f xs ≡ xs
+  unfolding filter
+  filter-all [] each = refl
+  filter-all (x ∷ xs) each = ap₂ (λ (b : Bool) (rest : List A). cond b (x ∷ rest) rest) (each x) (filter-all xs each)
+
+  pub filter-filter : (g : A → Bool) (xs : List A) → filter f (filter g xs) ≡ filter (λ x. g x && f x) xs
+  unfolding filter
+  filter-filter g [] = refl
+  filter-filter g (x ∷ xs) = by (g x) (filter-filter g xs)
+    where
+      by : (b : Bool) → filter f (filter g xs) ≡ filter (λ y. g y && f y) xs
+          → filter f (cond b (x ∷ filter g xs) (filter g xs)) ≡ cond (b && f x) (x ∷ filter (λ y. g y && f y) xs) (filter (λ y. g y && f y) xs)
+      by true e = ap (λ (r : List A). cond (f x) (x ∷ r) r) e
+      by false e = e
+
+-- a test of all members is one of what they are made into
+pub all-map-on : {A B : Type 0} (f : A → Bool) (g : B → Bool) (h : A → B) (xs : List A) → ((x : A) → List·Memᴰ x xs → f x ≡ g (h x))
+    → all f xs ≡ all g (map h xs)
+unfolding all
+all-map-on f g h [] same = refl
+all-map-on f g h (x ∷ xs) same = ap₂ _&&_ (same x (List·Memᴰ·head refl)) (all-map-on f g h xs (λ y m. same y (List·Memᴰ·tail m)))
 
 -- members that give nothing may be left out
 pub flatMap-filter : {A B : Type 0} (f : A → List B) (test : A → Bool) → ((x : A) → T (not (test x)) → f x ≡ []) → (xs : List A)
@@ -84,13 +106,8 @@ module _ {A : Type 0} where
 
   -- both tests at once
   pub count-filter : (f g : A → Bool) (xs : List A) → count f (filter g xs) ≡ count (λ x. g x && f x) xs
-  unfolding filter
-  count-filter f g [] = count-none f ∙ sym (count-none (λ x. g x && f x))
-  count-filter f g (x ∷ xs) = by (g x) (count-filter f g xs) ∙ sym (count-cons (λ y. g y && f y) x xs)
-    where
-      by : (b : Bool) {n : ℕ} → count f (filter g xs) ≡ n → count f (cond b (x ∷ filter g xs) (filter g xs)) ≡ cond (b && f x) 1 0 + n
-      by true r = count-cons f x (filter g xs) ∙ ap (λ (k : ℕ). cond (f x) 1 0 + k) r
-      by false r = omega arith
+  unfolding count
+  count-filter f g xs = ap length (filter-filter f g xs)
 
 pub count-map : {A B : Type 0} (f : B → Bool) (g : A → B) (xs : List A) → count f (map g xs) ≡ count (λ x. f (g x)) xs
 unfolding count filter

@@ -134,7 +134,7 @@ upFrom-append x (suc n) m =
 -- ---- read at any place
 
 module _ {A : Type 0} (z : A) where
-  getD-fill : (n i : ℕ) → getD (replicate n z) i z ≡ z
+  pub getD-fill : (n i : ℕ) → getD (replicate n z) i z ≡ z
   getD-fill zero i = refl
   getD-fill (suc n) zero = refl
   getD-fill (suc n) (suc i) = getD-fill n i

@@ -17,7 +17,7 @@ use Rattle.poly.specs.Word.{halves}
 use Rattle.paths.specs.Paths.{words, wordsOfWeight, weights, paths, plainCounts, pathTable, pathRoom}
 use Rattle.undetected.specs.Undetected.{passes, undetectedCount, undetectedCounts}
 use Rattle.choice.specs.Choice.{candidates, fewer, unbettered, best, firstOf, choiceAmong, choice}
-use Rattle.jobs.specs.Jobs.{unlessTooMany, clearedSearch, filledSearch, chosen, searched, ran}
+use Rattle.jobs.specs.Jobs.{unlessTooMany, clearedSearch, filledSearch, chosen, rowsOf, made, ran}
 use Rattle.calls.specs.Calls.{jobQuestions, questions, call}
 use Rattle.search.specs.Calls.{searchQuestions, searchCall}
 use Rattle.lines.specs.Lines.{digit, digits, numeral, decimal, octal, hexadecimal, line, wORDER, wEVENTS, wPATHS, wA, wCRC, wNO, orderLine, countLine, polynomialLine}
@@ -38,7 +38,7 @@ document-printed : printed (0 ∷ 10 ∷ 1 ∷ 2 ∷ 1 ∷ 4 ∷ 2 ∷ 6 ∷ 0 �
 unfolding flatMap onesIn ones upFrom filter count all any padded cleared bit _⊕_ digitsThrough horner _⊗_ register remainder terminated stepsOf output eventStates weightOf weight next tapped
     stepOutput stepWeight walkWeight firstMeets firstNo from-to inRange hasBit workSize divides total shareFactor shapeQuestions withLength ifTaken numberQuestions generatorQuestions orderQuestions
     unless unlessRefused isListed eventsOfLength eventsOfState events entry noEvent eventTable words wordsOfWeight weights paths plainCounts halves pathTable pathRoom passes undetectedCount
-    undetectedCounts candidates fewer unbettered best firstOf choiceAmong choice unlessTooMany clearedSearch filledSearch jobQuestions questions searchQuestions chosen searched ran call searchCall
+    undetectedCounts candidates fewer unbettered best firstOf choiceAmong choice unlessTooMany clearedSearch filledSearch jobQuestions questions searchQuestions chosen rowsOf made ran call searchCall
     digit digits numeral decimal octal hexadecimal line wORDER wEVENTS wPATHS wA wCRC ofWeight orderLine countLine polynomialLine rowText be16 readGenerators readFields lengthRight versionRight
     countRight recordQuestions read lent answerText printedSearch printedReading printed
 document-printed = refl

@@ -5,6 +5,7 @@ use Prim.Native.Nat.{ℕ, zero, suc, _≤_}
 use native.Mathlib.Omega.{arith}
 use mathlib.Core.Path.{_≡_, refl, sym, ap, _∙_, subst}
 use mathlib.Core.Logic.{_↔_, inl, inr}
+use mathlib.Core.List.{[], _∷_}
 use lib.ListN.{length}
 use Rattle.lists.proofs.Tests.{lt-or-ge}
 use Rattle.lists.proofs.Lengths.{length-filter-le}
@@ -23,7 +24,9 @@ use Rattle.choice.specs.Choice.{Choice, choice}
 use Rattle.row.specs.declared.Row.{Row}
 use Rattle.row.specs.declared.Answered.{Answered}
 use Rattle.row.specs.Answered.{answeredAs}
-use Rattle.jobs.specs.Jobs.{SearchTables, clearedSearch, filledSearch, chosen, searched, ran}
+use Rattle.lengths.specs.Model.Noted.{AllFit, OneTooMany}
+use Rattle.jobs.specs.declared.Job.the-variants as J
+use Rattle.jobs.specs.Jobs.{SearchTables, clearedSearch, filledSearch, chosen, rowsOf, made, ran}
 use Rattle.calls.specs.Calls.{call}
 use Rattle.search.specs.Calls.{searchQuestions, searchCall}
 use Rattle.search.specs.Promise.{NoneRefuses, NamesBest}
@@ -74,16 +77,16 @@ module _ (o : Order) (N′ : ℕ) (t : SearchTables) where
         let fit = may .events-fit in
         omega arith
 
-    same-searched : SameRow (searched o q t) (searched q q t)
-    unfolding searched
+    same-searched : SameRow (ran J.Choose [] o q t) (ran J.Choose [] q q t)
+    unfolding ran rowsOf made OneTooMany AllFit
     same-searched = elim (lt-or-ge (pathRoom np) (length (paths q))) [
       | inl more ↦
-          subst (λ (x : Outcome). SameRow x (searched q q t)) (too-many-paths o q ne np (clearedSearch t) (chosen o q t (choice q)) (may .events-fit) more)
-          (subst (SameRow (refused 14, clearedSearch t)) (too-many-paths q q ne np (clearedSearch t) (chosen q q t (choice q)) fewer more)
+          subst (λ (x : Outcome). SameRow x (ran J.Choose [] q q t)) (too-many-paths o (q ∷ []) ne np (clearedSearch t) (chosen o q t (choice q)) (may .events-fit) (inl more))
+          (subst (SameRow (refused 14, clearedSearch t)) (too-many-paths q (q ∷ []) ne np (clearedSearch t) (chosen q q t (choice q)) fewer (inl more))
           (same-row (refused 14, clearedSearch t)))
       | inr fits ↦
-          subst (λ (x : Outcome). SameRow x (searched q q t)) (all-fit o q ne np (clearedSearch t) (chosen o q t (choice q)) (may .events-fit) fits)
-          (subst (SameRow (chosen o q t (choice q))) (all-fit q q ne np (clearedSearch t) (chosen q q t (choice q)) fewer fits)
+          subst (λ (x : Outcome). SameRow x (ran J.Choose [] q q t)) (all-fit o (q ∷ []) ne np (clearedSearch t) (chosen o q t (choice q)) (may .events-fit) (fits, tt))
+          (subst (SameRow (chosen o q t (choice q))) (all-fit q (q ∷ []) ne np (clearedSearch t) (chosen q q t (choice q)) fewer (fits, tt))
           (same-chosen (choice q)))
     ]
 
@@ -91,8 +94,8 @@ module _ (o : Order) (N′ : ℕ) (t : SearchTables) where
     unfolding quoteCall searchCall quoteQuestions searchQuestions call ran withLength
     quote-is-fresh =
         let same : why ≡ fresh-why = asks-as-fresh o N′ (may .tail-biting) (may .no-longer) (may .at-most-128) _ _ _ in
-        subst (λ (k : ℕ). SameRow (unlessRefused why t (searched o q t)) (unlessRefused k t (searched q q t))) same
-        (same-unless why t (searched o q t) (searched q q t) same-searched)
+        subst (λ (k : ℕ). SameRow (unlessRefused why t (ran J.Choose [] o q t)) (unlessRefused k t (ran J.Choose [] q q t))) same
+        (same-unless why t (ran J.Choose [] o q t) (ran J.Choose [] q q t) same-searched)
 
   -- ---- what is answered otherwise than by a refusal may be quoted
 
@@ -105,14 +108,14 @@ module _ (o : Order) (N′ : ℕ) (t : SearchTables) where
     where
       by : (k : ℕ) → why ≡ k → why ≡ 0
       by zero e = e
-      by (suc k) e = absurd (n why (ap (λ (x : Outcome). x .0) (sym (leaves-refused t (searched o q t) why why refl (λ z. absurd (omega (arith, e, z)))))))
+      by (suc k) e = absurd (n why (ap (λ (x : Outcome). x .0) (sym (leaves-refused t (ran J.Choose [] o q t) why why refl (λ z. absurd (omega (arith, e, z)))))))
 
-  as-searched : why ≡ 0 → quoteCall o N′ t ≡ searched o q t
+  as-searched : why ≡ 0 → quoteCall o N′ t ≡ ran J.Choose [] o q t
   unfolding quoteCall quoteQuestions call ran
-  as-searched e = sym (leaves-answered t (searched o q t) why (sym e))
+  as-searched e = sym (leaves-answered t (ran J.Choose [] o q t) why (sym e))
 
   may-quote : NotRefused → MayQuote o N′ t
-  unfolding searched
+  unfolding ran rowsOf made
   may-quote n =
       let e = none-early n in
       let is : Lengths o N′ = lengths o N′ _ _ _ e in
@@ -121,7 +124,7 @@ module _ (o : Order) (N′ : ℕ) (t : SearchTables) where
         no-longer = is .no-longer;
         at-most-128 = is .at-most-128;
         events-fit = elim (lt-or-ge ne (length (events o))) [
-          | inl more ↦ absurd (n 13 (ap (λ (x : Outcome). x .0) (as-searched e ∙ sym (too-many-events o q ne np (clearedSearch t) (chosen o q t (choice q)) more))))
+          | inl more ↦ absurd (n 13 (ap (λ (x : Outcome). x .0) (as-searched e ∙ sym (too-many-events o (q ∷ []) ne np (clearedSearch t) (chosen o q t (choice q)) more))))
           | inr fits ↦ fits
         ];
       }

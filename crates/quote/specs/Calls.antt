@@ -4,7 +4,7 @@
 -- Assumes nothing.
 use Prim.Native.Nat.{ℕ}
 use mathlib.Core.Bool.{true, cond}
-use mathlib.Core.List.{List}
+use mathlib.Core.List.{List, []}
 use lib.Dec.{leb}
 use Rattle.order.specs.Questions.{Question, longestWord}
 use Rattle.order.specs.Order.{Order}
@@ -25,7 +25,7 @@ quotable N = record { versions = 1; longest = longestQuoted N; degree = true; th
 
 -- the row for N′, its events collected for N
 abbrev pub quoting : Order → ℕ → Call
-quoting o N′ = record { order = o; takes = quotable (o .N); N = N′; job = J.Choose }
+quoting o N′ = record { order = o; takes = quotable (o .N); N = N′; shorter = []; job = J.Choose }
 
 unfoldable pub quoteQuestions : Order → (N′ plain undetected work : ℕ) → List Question
 quoteQuestions o N′ plain undetected work = questions (quoting o N′) plain undetected work

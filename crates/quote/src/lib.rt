@@ -3,12 +3,14 @@
 ghost use mathlib.Core.Path.{_≡_};
 ghost use Rattle.order.specs.Answers.{orderIn};
 ghost use Rattle.row.specs.Answered.{answeredAs};
+ghost use Rattle.lengths.specs.Shorter.{noneShorter};
 ghost use Rattle.jobs.specs.Jobs.{searchTables};
 ghost use Rattle.quote.specs.Calls.{longestQuoted, quotable, quoteCall};
 use calls::call;
 use events::Event;
 use jobs::Job;
 use jobs::Plan;
+use lengths::NONE_SHORTER;
 use order::questions::LONGEST_WORD;
 use order::questions::Takes;
 use order::record::OrderRecord;
@@ -26,7 +28,7 @@ fn longest_quoted(bits: u64) -> u64
 
 // The plan: tail-biting links, lengths up to the order's own, and everything.
 fn quoting(order: OrderRecord, bits: u64) -> Plan
-    ensures { λ r. ⌜ r ≡ record { order = order; takes = quotable (order .bits); bits = bits; job = Job.Choose } ⌝ }
+    ensures { λ r. ⌜ r ≡ record { order = order; takes = quotable (order .bits); bits = bits; shorter = noneShorter; job = Job.Choose } ⌝ }
 {
     Plan {
         order,
@@ -37,6 +39,7 @@ fn quoting(order: OrderRecord, bits: u64) -> Plan
             threshold: true,
         },
         bits,
+        shorter: NONE_SHORTER,
         job: Job::Choose,
     }
 }

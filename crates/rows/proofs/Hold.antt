@@ -18,11 +18,15 @@ use Rattle.poly.specs.Word.{halves}
 use Rattle.paths.specs.Paths.{words, wordsOfWeight, weights, paths, plainCounts, pathTable, pathRoom}
 use Rattle.paths.specs.Part.{pathsTo, partFits, partOf, partNumber}
 use Rattle.undetected.specs.Undetected.{passes, undetectedCount, undetectedCounts}
+use Rattle.undetected.specs.FirstUndetected.{firstAbove0, firstUndetected}
+use Rattle.narrowing.specs.Narrowed.{largest, narrowed, longest, setChoice}
+use Rattle.lengths.specs.Shorter.{forEach}
 use Rattle.choice.specs.Choice.{candidates, fewer, unbettered, best, firstOf, choiceAmong, choice}
-use Rattle.jobs.specs.Jobs.{unlessTooMany, clearedSearch, filledSearch, chosen, searched, ran}
+use Rattle.jobs.specs.Jobs.{unlessTooMany, clearedSearch, filledSearch, chosen, rowsOf, made, ran}
 use Rattle.calls.specs.Calls.{jobQuestions, questions, call}
 use Rattle.search.specs.Calls.{searchQuestions, searchCall}
 use Rattle.quote.specs.Calls.{longestQuoted, quoteQuestions, quoteCall}
+use Rattle.set.specs.Calls.{allBelow, falling, shortest, kindQuestions, lengthQuestions, setQuestions, setRow, setCall}
 use Rattle.rows.specs.Rows.{lent, figuresOf, told, filledWith7, marked, paths₄, rows}
 
 pub rows-hold : map (λ line. told (line .0)) rows ≡ map (λ line. line .1) rows
@@ -30,5 +34,6 @@ unfolding flatMap onesIn ones upFrom filter count all any padded cleared bit _�
     output eventStates weightOf weight next tapped stepOutput stepWeight walkWeight firstMeets firstNo from-to inRange hasBit workSize divides total shareFactor withLength shapeQuestions ifTaken
     numberQuestions generatorQuestions orderQuestions unless unlessRefused isListed eventsOfLength eventsOfState events entry noEvent eventTable words wordsOfWeight weights paths plainCounts halves
     pathTable pathRoom passes undetectedCount undetectedCounts candidates fewer unbettered best firstOf choiceAmong choice unlessTooMany clearedSearch filledSearch jobQuestions questions
-    searchQuestions chosen searched ran call searchCall longestQuoted quoteQuestions quoteCall pathsTo partFits partOf partNumber ofWeight sum lent figuresOf told filledWith7 marked paths₄ rows
+    searchQuestions chosen rowsOf made ran call searchCall longestQuoted quoteQuestions quoteCall firstAbove0 firstUndetected largest narrowed
+    longest setChoice forEach allBelow falling shortest kindQuestions lengthQuestions setQuestions setRow setCall pathsTo partFits partOf partNumber ofWeight sum lent figuresOf told filledWith7 marked paths₄ rows
 rows-hold = refl

@@ -1,4 +1,4 @@
--- Document 01's rows marked ●, as document 02 (C-11 to C-16) left them, as one table: what is asked, and every figure of the answer. `proofs/Hold.antt` has
+-- Document 01's rows marked ●, as document 02 (C-11 to C-17) left them, as one table: what is asked, and every figure of the answer. `proofs/Hold.antt` has
 -- the one theorem, that each line's figures are what the definitions give. Where a document leaves a figure out, the line states it all the same.
 -- Polynomials are in hexadecimal, the rest in decimal, as in the document. Code S has v = 1 and generators 1, 3. Links are tail-biting where it is not
 -- said that they are terminated.
@@ -17,16 +17,21 @@ use Rattle.paths.specs.Part.{partOf, partNumber}
 use Rattle.order.specs.Answer.{Answer, accepted, refused}
 use Rattle.row.specs.declared.Row.{Row}
 use Rattle.row.specs.Answered.{row as found}
+use Rattle.choice.specs.Choice.{candidates}
+use Rattle.narrowing.specs.Narrowed.{narrowed}
 use Rattle.jobs.specs.Jobs.{SearchTables, searchTables}
 use Rattle.search.specs.Calls.{searchCall}
 use Rattle.quote.specs.Calls.{quoteCall}
+use Rattle.set.specs.Calls.{setCall}
 
--- what a line asks: the row of an order; what the search, and quoting the length N′, answer and leave of what they are lent; the first question about an
+-- what a line asks: the row of an order; what the search, quoting the length N′, and the search for a set of lengths answer and leave of what they are lent; who is left after some lengths; the first question about an
 -- order that says no, or 0; the weight of a word; the word of a message; the part of one weight
 pub data Ask : Type 0 where
   row : Order → Ask
   searched : Order → SearchTables → Ask
   quoted : Order → (N′ : ℕ) → SearchTables → Ask
+  set : Order → (Ns : List ℕ) → SearchTables → Ask
+  left : Order → (Ns : List ℕ) → Ask
   question : Order → Ask
   weigh : Order → (word : ℕ) → Ask
   word : (N m polynomial message : ℕ) → Ask
@@ -45,6 +50,7 @@ pub data Told : Type 0 where
   a-number : ℕ → Told
   an-answer : Answer ℕ → Told
   a-part : (number : ℕ) → List ℕ → Told
+  numbers : List ℕ → Told
 
 -- what the definitions give, with `dso`'s tables lent: 512 events, 2,048 paths
 unfoldable pub lent : ℕ → SearchTables
@@ -59,6 +65,8 @@ unfoldable pub told : Ask → Told
 told (row o) = figures (figuresOf o)
 told (searched o t) = answer-and-tables (searchCall o t)
 told (quoted o N′ t) = answer-and-tables (quoteCall o N′ t)
+told (set o Ns t) = answer-and-tables (setCall o Ns t)
+told (left o Ns) = numbers (narrowed o Ns (candidates (o .m)))
 told (question o) = a-number (firstNo (orderQuestions everything o))
 told (weigh o u) = a-number (weight o u)
 told (word N m p f) = an-answer (appendCall N m p f)
@@ -204,6 +212,52 @@ rows =
     ∷ (
       quoted (order 1 1 4 2 6 S) 3 (filledWith7 4 8 7),
       answer-and-tables (refused 13, searchTables (replicate 4 noEvent) (replicate 16 0) (replicate 7 0) (replicate 7 0) (replicate workSize 0)),
+    )
+    -- S, m=2, d=6, lengths 4 and 3: 0x5 alone, with the tables of N=4; the order's own N, 0 here, is not looked at
+    ∷ (
+      set (order 1 1 0 2 6 S) (4 ∷ 3 ∷ []) (filledWith7 5 13 5),
+      answer-and-tables (
+        accepted (found 5 13 0x5 1),
+        searchTables (entry 0 1 0 0 ∷ entry 0 2 3 1 ∷ entry 0 3 4 3 ∷ entry 0 4 5 7 ∷ entry 1 1 1 1 ∷ [])
+            (1 ∷ 0 ∷ 2 ∷ 0 ∷ 4 ∷ 0 ∷ 8 ∷ 0 ∷ 3 ∷ 0 ∷ 6 ∷ 0 ∷ 9 ∷ 0 ∷ 12 ∷ 0 ∷ 15 ∷ 0 ∷ 7 ∷ 0 ∷ 11 ∷ 0 ∷ 13 ∷ 0 ∷ 14 ∷ 0 ∷ [])
+            (0 ∷ 0 ∷ 4 ∷ 5 ∷ 4 ∷ []) (0 ∷ 0 ∷ 0 ∷ 1 ∷ 0 ∷ []) (replicate workSize 0),
+      ),
+    )
+    -- the first length leaves both polynomials, the second one: S, m=2, d=5, lengths 4 and 3; alone, 4 has two that share the counts
+    ∷ (
+      set (order 1 1 4 2 5 S) (4 ∷ 3 ∷ []) (filledWith7 4 9 4),
+      answer-and-tables (
+        accepted (found 4 9 0x5 1),
+        searchTables (entry 0 1 0 0 ∷ entry 0 2 3 1 ∷ entry 0 3 4 3 ∷ entry 1 1 1 1 ∷ [])
+            (1 ∷ 0 ∷ 2 ∷ 0 ∷ 4 ∷ 0 ∷ 8 ∷ 0 ∷ 3 ∷ 0 ∷ 6 ∷ 0 ∷ 9 ∷ 0 ∷ 12 ∷ 0 ∷ 15 ∷ 0 ∷ [])
+            (0 ∷ 0 ∷ 4 ∷ 5 ∷ []) (0 ∷ 0 ∷ 0 ∷ 1 ∷ []) (replicate workSize 0),
+      ),
+    )
+    -- the order of narrowing matters: generators 1, 5, m=2, d=4. At 4 bits 0x7 leaves nothing, at 3 bits 0x5; longest first it is 0x7, shortest first 0x5
+    ∷ (left (order 1 2 4 2 4 (1 ∷ 5 ∷ [])) (4 ∷ 3 ∷ []), numbers (0x7 ∷ []))
+    ∷ (left (order 1 2 4 2 4 (1 ∷ 5 ∷ [])) (3 ∷ 4 ∷ []), numbers (0x5 ∷ []))
+    ∷ (
+      set (order 1 2 4 2 4 (1 ∷ 5 ∷ [])) (4 ∷ 3 ∷ []) (filledWith7 4 6 3),
+      answer-and-tables (
+        accepted (found 4 6 0x7 1),
+        searchTables (entry 0 1 0 0 ∷ entry 0 3 3 1 ∷ entry 1 2 1 2 ∷ entry 3 1 1 1 ∷ []) (5 ∷ 0 ∷ 10 ∷ 0 ∷ 1 ∷ 0 ∷ 2 ∷ 0 ∷ 4 ∷ 0 ∷ 8 ∷ 0 ∷ [])
+            (0 ∷ 2 ∷ 4 ∷ []) (0 ∷ 0 ∷ 0 ∷ []) (replicate workSize 0),
+      ),
+    )
+    -- a list that does not fall: refusal 17, and nothing lent is changed
+    ∷ (set (order 1 2 4 2 4 (1 ∷ 5 ∷ [])) (3 ∷ 4 ∷ []) marked, answer-and-tables (refused 17, marked))
+    -- so no length, nine lengths and equal ones, before question 5 and after 4
+    ∷ (set (order 1 1 4 2 3 S) [] marked, answer-and-tables (refused 17, marked))
+    ∷ (set (order 1 1 4 2 3 S) (12 ∷ 11 ∷ 10 ∷ 9 ∷ 8 ∷ 7 ∷ 6 ∷ 5 ∷ 4 ∷ []) marked, answer-and-tables (refused 17, marked))
+    ∷ (set (order 1 1 4 2 3 S) (200 ∷ 200 ∷ []) marked, answer-and-tables (refused 17, marked))
+    ∷ (set (order 1 0 4 2 3 S) [] marked, answer-and-tables (refused 4, marked))
+    -- 5 of every length; 6 of the shortest, which 2 bits do not pass for m=2
+    ∷ (set (order 1 1 4 2 3 S) (129 ∷ 4 ∷ []) marked, answer-and-tables (refused 5, marked))
+    ∷ (set (order 1 1 4 2 3 S) (4 ∷ 2 ∷ []) marked, answer-and-tables (refused 6, marked))
+    -- 14 of each length: S, m=1, d=3 has no path of 3 bits and one of 2, and a table for no path is refused, all zero
+    ∷ (
+      set (order 1 1 3 1 3 S) (3 ∷ 2 ∷ []) (filledWith7 3 0 2),
+      answer-and-tables (refused 14, searchTables (replicate 3 noEvent) [] (replicate 2 0) (replicate 2 0) (replicate workSize 0)),
     )
     -- d=1 leaves lists of no entries: S, N=4, m=1 has 1 event, no path and 0x3 alone; so has a terminated link, N=3
     ∷ line 1 4 1 1 S (accepted (found 1 0 0x3 1)) (event 0 1 0 0 ∷ []) [] [] []

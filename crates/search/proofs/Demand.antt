@@ -3,90 +3,57 @@
 -- counts has a smaller number, and exactly so many have them; the undetected list is p's counts below the threshold; and of every candidate each count is the
 -- number of the words of its weight that it divides, with none of weight 0. It accepts exactly when no question refuses. `search-promises` says it of the function's own answer.
 -- Assumes nothing.
-use Prim.Native.Nat.{ℕ, zero, suc}
-use native.Mathlib.Omega.{arith}
-use mathlib.Core.Path.{_≡_, refl, sym, ap, _∙_, subst}
+use Prim.Native.Nat.{ℕ}
+use mathlib.Core.Path.{_≡_, sym, ap, _∙_, subst}
 use mathlib.Core.Logic.{_↔_, _⊎_, inl, inr, ⊎-elim}
+use mathlib.Core.List.{[], _∷_}
 use lib.ListN.{length}
 use Rattle.lists.specs.Lists.{padded}
-use Rattle.lists.proofs.Tests.{lt-or-ge}
 use Rattle.order.specs.Questions.{firstNo}
 use Rattle.order.specs.Order.{Order, withLength, everything}
 use Rattle.order.specs.Answer.{Answer, accepted, refused}
 use Rattle.order.specs.Answers.{orderIn}
 use Rattle.order.specs.Model.Accepted.{AcceptedCode, AcceptedWhole}
 use Rattle.order.specs.declared.record.OrderRecord.{OrderRecord}
-use Rattle.order.proofs.FirstNo.{none-in-parts, leaves-refused, leaves-answered, refused-not-accepted}
+use Rattle.order.proofs.FirstNo.{none-in-parts, refused-not-accepted}
 use Rattle.order.proofs.Asked.{numbered-order, accepted-whole}
 use Rattle.events.specs.Events.{events}
-use Rattle.paths.specs.Paths.{paths, pathRoom}
-use Rattle.jobs.proofs.Fits.{too-many-events, too-many-paths, all-fit}
+use Rattle.paths.specs.Paths.{paths}
+use Rattle.lengths.specs.Model.Noted.{AllFit}
 use Rattle.undetected.specs.Undetected.{undetectedCounts, CountsUndetected}
-use Rattle.undetected.proofs.Undetected.{undetected-means-divided}
+use Rattle.undetected.proofs.Undetected.{undetected-means-divided, undetected-of-weight}
 use Rattle.choice.specs.Choice.{choice}
-use Rattle.choice.proofs.ByWeight.{undetected-of-weight, none-undetected}
+use Rattle.choice.proofs.ByWeight.{none-undetected}
 use Rattle.choice.proofs.Chosen.{choice-first-best, choice-counts}
 use Rattle.row.specs.declared.Row.{Row}
 use Rattle.row.specs.declared.Answered.{Answered}
 use Rattle.row.specs.Answered.{row, answeredAs}
-use Rattle.jobs.specs.Jobs.{SearchTables, clearedSearch, filledSearch, chosen, searched, ran}
+use Rattle.jobs.specs.Jobs.{SearchTables, filledSearch, chosen, rowsOf, made, ran}
 use Rattle.calls.specs.Calls.{questions, call}
+use Rattle.calls.proofs.Outcomes.{Outcome, whole-accepts, whole-either}
 use Rattle.search.specs.Calls.{searchQuestions, searchCall}
 use Rattle.search.specs.Promise.{NoneRefuses, NamesBest, Promise}
 
-accepted-same : {f g : Row} → _≡_ {A = Answer Row} (accepted f) (accepted g) → f ≡ g
+pub accepted-same : {f g : Row} → _≡_ {A = Answer Row} (accepted f) (accepted g) → f ≡ g
 accepted-same e = cc
 
 module _ (o : Order) (t : SearchTables) where
-  abbrev Outcome : Type 0
-  Outcome = Answer Row × SearchTables
-
   -- the number of the first question before 13 that says no
   abbrev why : ℕ
   why = firstNo (searchQuestions o (length (t .plain)) (length (t .undetected)) (length (t .work)))
 
-  abbrev all : Outcome
-  all = chosen o o t (choice o)
-
-  abbrev fitting : Outcome
-  fitting = searched o o t
+  abbrev best : Outcome
+  best = chosen o o t (choice o)
 
   -- ---- refused, or chosen
 
-  accepts : NoneRefuses o t → searchCall o t ≡ all
-  unfolding searchCall searchQuestions call ran searched withLength
-  accepts n =
-      sym (leaves-answered t fitting why (sym (n .questions)))
-      ∙ sym (all-fit o o (length (t .events)) (length (t .paths)) (clearedSearch t) all (n .events-fit) (n .paths-fit))
+  accepts : NoneRefuses o t → searchCall o t ≡ best
+  unfolding searchCall searchQuestions call ran rowsOf made AllFit withLength
+  accepts n = whole-accepts why o (o ∷ []) t best (record { questions = n .questions; events-fit = n .events-fit; paths-fit = (n .paths-fit, tt) })
 
-  -- some question says no
-  abbrev Refuses : Type 0
-  Refuses = (r : ℕ) × (searchCall o t .0 ≡ refused r)
-
-  refuses-early : (why ≡ 0 → ⊥) → Refuses
-  unfolding searchCall searchQuestions call ran withLength
-  refuses-early n = (why, ap (λ (x : Outcome). x .0) (sym (leaves-refused t fitting why why refl n)))
-
-  refuses-late : why ≡ 0 → (r : ℕ) → _≡_ {A = Outcome} (refused r, clearedSearch t) fitting → Refuses
-  unfolding searchCall searchQuestions call ran withLength
-  refuses-late e r h = (r, ap (λ (x : Outcome). x .0) (sym (leaves-answered t fitting why (sym e)) ∙ sym h))
-
-  either : NoneRefuses o t ⊎ Refuses
-  unfolding searched
-  either = by why refl
-    where
-      then-fits : why ≡ 0 → NoneRefuses o t ⊎ Refuses
-      then-fits e = elim (lt-or-ge (length (t .events)) (length (events o))) [
-        | inl more ↦ inr (refuses-late e 13 (too-many-events o o (length (t .events)) (length (t .paths)) (clearedSearch t) all more))
-        | inr fits ↦ elim (lt-or-ge (pathRoom (length (t .paths))) (length (paths o))) [
-          | inl more ↦ inr (refuses-late e 14 (too-many-paths o o (length (t .events)) (length (t .paths)) (clearedSearch t) all fits more))
-          | inr room ↦ inl (record { questions = e; events-fit = fits; paths-fit = room })
-        ]
-      ]
-
-      by : (k : ℕ) → why ≡ k → NoneRefuses o t ⊎ Refuses
-      by zero e = then-fits e
-      by (suc k) e = inr (refuses-early (λ z. absurd (omega (arith, e, z))))
+  either : NoneRefuses o t ⊎ ((r : ℕ) × (searchCall o t .0 ≡ refused r))
+  unfolding searchCall searchQuestions call ran rowsOf made AllFit withLength
+  either = ⊎-elim (λ n. inl (record { questions = n .questions; events-fit = n .events-fit; paths-fit = n .paths-fit .0 })) inr (whole-either why o (o ∷ []) t best)
 
   -- ---- accepted
 

@@ -5,6 +5,7 @@ use native.Mathlib.Nat.{le-refl, le-trans}
 use mathlib.Core.Path.{_≡_, sym, _∙_, ap, subst}
 use mathlib.Core.Bool.{true}
 use Rattle.walks.proofs.Frame.{List, [], _∷_, u64, Kind, lent}
+use Rattle.lists.specs.Lists.{upFrom}
 use Rattle.order.specs.Questions.{highestVersion, longestWord}
 use Rattle.order.specs.Answers.{orderIn}
 use Rattle.order.specs.Answer.{Answer}
@@ -12,6 +13,7 @@ use Rattle.order.specs.declared.questions.Takes.{Takes}
 use Rattle.order.specs.declared.record.OrderRecord.{OrderRecord}
 use Rattle.events.proofs.Event as T
 use Rattle.row.specs.declared.Row.{Row}
+use Rattle.lengths.specs.Shorter.{noneShorter, shorterIn}
 use Rattle.jobs.specs.Jobs.{SearchTables}
 use Rattle.jobs.specs.declared.Job.{Job}
 use Rattle.jobs.specs.declared.Plan.{Plan}
@@ -26,11 +28,11 @@ abbrev pub event-tables : List Kind
 event-tables = lent T.the-row ∷ lent u64 ∷ []
 
 abbrev pub ownPlan : Takes → Job → OrderRecord → Plan
-ownPlan takes job order = record { order = order; takes = takes; bits = order .bits; job = job }
+ownPlan takes job order = record { order = order; takes = takes; bits = order .bits; shorter = noneShorter; job = job }
 
 module _ (takes : Takes) (job : Job) (order : OrderRecord) (plan : Plan) (is : plan ≡ ownPlan takes job order) where
   pub own-call : callIn plan ≡ ofOwnLength takes job (orderIn order)
-  unfolding orderIn
+  unfolding orderIn shorterIn upFrom
   own-call = ap callIn is
 
   -- what is seen of the call that the plan tells is what is seen of one for the order's own length

@@ -17,7 +17,7 @@ pub upTo-within : (limit c : ℕ) → c ≤ limit → c ≡ upTo limit c
 unfolding upTo
 upTo-within limit c h = sym (ap (λ (b : Bool). cond b c (limit + 1)) (le-leb c limit h))
 
-upTo-past : (limit c : ℕ) → limit < c → limit + 1 ≡ upTo limit c
+pub upTo-past : (limit c : ℕ) → limit < c → limit + 1 ≡ upTo limit c
 unfolding upTo
 upTo-past limit c h = sym (ap (λ (b : Bool). cond b c (limit + 1)) (lt-leb c limit h))
 

@@ -1,24 +1,25 @@
 -- What `undetectedCount` counts: the nonzero words of weight w that p divides, each once (`undetected-means-divided`). They are among the words that
--- the plain count counts.
+-- the plain count counts. The list of counts has d - 1 entries, from weight 1 on.
 -- Assumes nothing.
-use Prim.Native.Nat.{ℕ, _≤_, _<_}
-use mathlib.Core.Path.{_≡_, refl, sym, subst}
+use Prim.Native.Nat.{ℕ, _+_, _-_, _≤_, _<_}
+use native.Mathlib.Omega.{arith}
+use mathlib.Core.Path.{_≡_, refl, sym, ap, _∙_, subst}
 use mathlib.Core.Logic.{_↔_}
 use mathlib.Core.List.{List, List·Memᴰ}
 use lib.Dec.{T, eqb, eqb→eq, eqb-refl}
-use lib.ListN.{length}
+use lib.ListN.{length, getD}
 use Rattle.lists.specs.Lists.{filter, count}
 use Rattle.lists.proofs.Tests.{T-and}
 use Rattle.lists.proofs.Member.{of-filter, in-filter}
-use Rattle.lists.proofs.Lengths.{length-filter-mono}
+use Rattle.lists.proofs.Lengths.{length-filter-mono, getD-map-upFrom, length-map-upFrom}
 use Rattle.lists.proofs.Sorted.{Sorted, filter-sorted}
 use Rattle.poly.specs.Poly.{remainder, HasDegree}
 use Rattle.poly.proofs.Remainder.{divides⇔remainder-zero}
 use Rattle.code.specs.Weight.{weight}
-use Rattle.order.specs.Order.{Order}
-use Rattle.paths.specs.Paths.{words, wordsOfWeight}
+use Rattle.order.specs.Order.{Order, ofWeight}
+use Rattle.paths.specs.Paths.{words, wordsOfWeight, weights}
 use Rattle.paths.proofs.Listed.{mem-words, words-sorted}
-use Rattle.undetected.specs.Undetected.{passes, undetectedCount, IsUndetected, CountsUndetected}
+use Rattle.undetected.specs.Undetected.{passes, undetectedCount, undetectedCounts, IsUndetected, CountsUndetected}
 
 abbrev pub undetectedWords : Order → ℕ → ℕ → List ℕ
 undetectedWords o p w = filter (passes o p w) (words (o .N))
@@ -72,3 +73,22 @@ module _ (o : Order) (p w : ℕ) where
     pub undetected-means-divided : CountsUndetected o p w (undetectedCount o p w)
     undetected-means-divided =
         record { listed = undetectedWords o p w; each-once = undetectedWords-sorted; just-these = mem-undetectedWords; how-many = sym undetected-count-is-length }
+
+-- ---- the counts of one polynomial
+
+module _ (o : Order) where
+  pub length-undetectedCounts : (p : ℕ) → length (undetectedCounts o p) ≡ o .d - 1
+  unfolding undetectedCounts weights
+  length-undetectedCounts p = length-map-upFrom (undetectedCount o p) 1 (o .d - 1)
+
+  -- entry k is of weight k + 1
+  pub undetected-count-at : (p k : ℕ) → k < o .d - 1 → getD (undetectedCounts o p) k 0 ≡ undetectedCount o p (1 + k)
+  unfolding undetectedCounts weights
+  undetected-count-at p k h = getD-map-upFrom (undetectedCount o p) 1 (o .d - 1) k 0 h
+
+-- weight w is entry w - 1
+pub undetected-of-weight : (o : Order) (p w : ℕ) → 1 ≤ w → w < o .d → ofWeight w (undetectedCounts o p) ≡ undetectedCount o p w
+unfolding ofWeight
+undetected-of-weight o p w some h =
+    let e : 1 + (w - 1) ≡ w = omega arith in
+    undetected-count-at o p (w - 1) (omega arith) ∙ ap (undetectedCount o p) e

@@ -1,2 +1,3 @@
 pub mod Undetected
+pub mod FirstUndetected
 pub mod Model

@@ -1,7 +1,8 @@
-// How many listed words of each weight a polynomial divides.
+// How many listed words of each weight a polynomial divides, and the first weight of which it divides one.
 // What is `pub` here is for the crates above; docs/DECISIONS.md lists it as internal.
 ghost use mathlib.Core.Path.{_≡_};
-ghost use Rattle.undetected.specs.Model.Steps.{evenBetween, upTo, countedFrom, ToCountBetween, ToCountFrom};
+ghost use Rattle.undetected.specs.FirstUndetected.{firstAbove0};
+ghost use Rattle.undetected.specs.Model.Steps.{evenBetween, upTo, dividedCounts, countedFrom, ToCountBetween, ToCountFrom, ToFindFirst};
 use parity::all_even;
 use parity::check_table;
 
@@ -57,4 +58,23 @@ pub fn count_from(
         at = next;
         j += 1;
     }
+}
+
+// The weight of the first listed word that p divides, one more than the last weight where it divides none. Entry i is of weight i + 1.
+pub fn first_weight(table: &[u64], plain: &[u64], bits: u64, m: u64, p: u64, entries: usize) -> u64
+    requires { ⌜ ToFindFirst bits entries m p (now table) (now plain) ⌝ }
+    ensures { λ r. ⌜ r ≡ firstAbove0 1 (dividedCounts m (now (table .entry)) (now (plain .entry)) entries p) ⌝ }
+{
+    let rows = check_table(bits, m, p);
+    let mut from = 0;
+    let mut i = 0;
+    while i < entries {
+        let to = from + plain[i] as usize;
+        if count_up_to(table, from, to, &rows, m, 0) != 0 {
+            return i as u64 + 1;
+        }
+        from = to;
+        i += 1;
+    }
+    entries as u64 + 1
 }

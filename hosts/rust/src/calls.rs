@@ -69,7 +69,8 @@ pub struct RowAnswer {
     /// The best polynomial, or the one that was given.
     pub polynomial: u64,
     /// How many polynomials have its counts, it among them: 1 or more where it
-    /// is the best. 0: nobody was compared with it.
+    /// is the best; of a set, how many of those left. 0: nobody was compared
+    /// with it.
     pub shared: u64,
 }
 
@@ -156,6 +157,7 @@ calls! {
     dohvrin_list = list(order: AnyOrder, events: &mut [Event], paths: &mut [u64], plain: &mut [u64], work: &mut [u64]) -> RowAnswer;
     dohvrin_search = search(order: AnyOrder, events: &mut [Event], paths: &mut [u64], plain: &mut [u64], undetected: &mut [u64], work: &mut [u64]) -> RowAnswer;
     dohvrin_quote = quote(order: AnyOrder, bits: u64, events: &mut [Event], paths: &mut [u64], plain: &mut [u64], undetected: &mut [u64], work: &mut [u64]) -> RowAnswer;
+    dohvrin_search_set = search_set(order: AnyOrder, lengths: &[u64], events: &mut [Event], paths: &mut [u64], plain: &mut [u64], undetected: &mut [u64], work: &mut [u64]) -> RowAnswer;
     dohvrin_count = count(order: AnyOrder, polynomial: u64, events: &mut [Event], paths: &mut [u64], plain: &mut [u64], undetected: &mut [u64], work: &mut [u64]) -> RowAnswer;
     dohvrin_part = part(table: &[u64], counts: &[u64], w: u64) -> Part;
     dohvrin_row_text = row_text(order: AnyOrder, row: RowAnswer, plain: &[u64], undetected: &[u64], text: &mut [u8]) -> Answer;

@@ -1,6 +1,6 @@
 //! The sizes of event and path table.
 
-use crate::{counting, Event, Order, Quote, Refusal};
+use crate::{counting, Event, LengthSet, Order, Quote, Refusal};
 use std::error::Error;
 use std::fmt;
 use std::mem::size_of;
@@ -39,6 +39,21 @@ impl Entries {
         Entries {
             events: counting::events(quote.long()),
             paths: counting::count(quote.short()).paths,
+        }
+    }
+
+    /// How many a set needs: the events of the longest length, and the paths of
+    /// the length that has most.
+    pub fn needed_by(set: &LengthSet) -> Entries {
+        let paths = |order: &Order| counting::count(order).paths;
+        Entries {
+            events: counting::events(set.longest()),
+            paths: set
+                .orders()
+                .iter()
+                .map(paths)
+                .max()
+                .expect("one at the least"),
         }
     }
 
@@ -129,7 +144,7 @@ impl Error for NoRoom {}
 #[cfg(test)]
 mod tests {
     use super::{Entries, NoRoom};
-    use crate::{AnyOrder, Link, Order, Quote, Refusal};
+    use crate::{AnyOrder, LengthSet, Link, Order, Quote, Refusal};
 
     fn entries(events: usize, paths: usize) -> Entries {
         Entries { events, paths }
@@ -175,6 +190,22 @@ mod tests {
         assert_eq!(quoted, entries(1_134, 48_965));
         let all = needed(&[0o561, 0o753], 8, 128, 64, 8);
         assert_eq!(all, entries(usize::MAX, 255));
+    }
+
+    #[test]
+    fn a_set_needs_the_events_of_the_longest_and_the_most_paths() {
+        let needed = |generators: &[u64], v, d, lengths: &[u64]| {
+            let any = AnyOrder::new(generators, v, 0, 1, d);
+            Entries::needed_by(&LengthSet::of(any, lengths).unwrap())
+        };
+        assert_eq!(needed(&[1, 3], 1, 6, &[4, 3]), entries(5, 13));
+        // No path of 3 bits, and one of 2.
+        assert_eq!(needed(&[1, 3], 1, 3, &[3, 2]), entries(2, 1));
+        let lengths = [128, 70];
+        assert_eq!(
+            needed(&[0o13, 0o17], 3, 14, &lengths),
+            entries(1_134, 115_520)
+        );
     }
 
     #[test]

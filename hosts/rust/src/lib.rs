@@ -14,7 +14,8 @@
 //! ```
 //!
 //! A `Quote` is an order and a shorter length, whose row `Tables::quote` makes from
-//! the order's events.
+//! the order's events. A `LengthSet` is an order for several lengths, to which
+//! `Tables::search_set` gives one polynomial.
 //!
 //! The functions below them take numbers and slices, as the calls do, and an
 //! `AnyOrder` by value, which may be wrong; a call that does not ask about m or d
@@ -104,6 +105,7 @@ mod quote;
 mod refusal;
 mod row;
 mod search;
+mod set;
 mod tables;
 mod word;
 
@@ -115,6 +117,7 @@ pub use order::Order;
 pub use quote::Quote;
 pub use refusal::Refusal;
 pub use row::Row;
-pub use search::{count, quote, refusal_text, row_text, search, Lent, TEXT};
+pub use search::{count, quote, refusal_text, row_text, search, search_set, Lent, TEXT};
+pub use set::{LengthSet, LENGTHS};
 pub use tables::Tables;
 pub use word::{append, encode, halves, joined, strip, test, weigh, Stripped};

@@ -38,10 +38,12 @@ pub enum Refusal {
     Paths,
     /// Question 16, which is asked after 9. No question has number 15.
     SharedFactor,
+    /// Question 17, which is asked after 4.
+    LengthList,
 }
 
 /// All of them with the numbers of their questions.
-const ALL: [(u64, Refusal); 15] = [
+const ALL: [(u64, Refusal); 16] = [
     (1, Refusal::RecordLength),
     (2, Refusal::Version),
     (3, Refusal::GeneratorCount),
@@ -57,10 +59,11 @@ const ALL: [(u64, Refusal); 15] = [
     (13, Refusal::Events),
     (14, Refusal::Paths),
     (16, Refusal::SharedFactor),
+    (17, Refusal::LengthList),
 ];
 
 impl Refusal {
-    /// The refusal of a number: 1 to 14, or 16.
+    /// The refusal of a number: 1 to 14, 16 or 17.
     pub fn of(number: u64) -> Option<Refusal> {
         let found = ALL.iter().find(|(listed, _)| *listed == number);
         found.map(|(_, refusal)| *refusal)
@@ -84,10 +87,10 @@ impl Refusal {
             }
             Refusal::Memory => "the memory v is not from 1 to 8",
             Refusal::WordLength => {
-                "the length N is not from v to 128, or that of a quote not from v to N"
+                "the length N, or one of a set, is not from v to 128, or that of a quote not from v to N"
             }
             Refusal::CheckDegree => {
-                "the check degree m is not from 1 to 12 and below N, or not below that of a quote"
+                "the check degree m is not from 1 to 12 and below N, that of a quote and all of a set"
             }
             Refusal::Threshold => "the threshold d is not from 1 to 64",
             Refusal::Generator => "a generator is zero, or not below 2^(v+1)",
@@ -98,6 +101,7 @@ impl Refusal {
             Refusal::Events => "there are more error events than the event table takes",
             Refusal::Paths => "there are more paths than the path table takes",
             Refusal::SharedFactor => "the generators share a factor",
+            Refusal::LengthList => "the lengths of a set are not 1 to 8, each below the one before",
         }
     }
 }
@@ -138,12 +142,12 @@ mod tests {
 
     #[test]
     fn numbers_and_refusals_belong_together() {
-        for number in (1..=14).chain([16]) {
+        for number in (1..=14).chain([16, 17]) {
             let refusal = Refusal::of(number).unwrap();
             assert_eq!(refusal.number(), number);
             assert!(!refusal.meaning().contains('\n'));
         }
-        for number in [0, 15, 17, u64::MAX] {
+        for number in [0, 15, 18, u64::MAX] {
             assert_eq!(Refusal::of(number), None);
         }
         assert_eq!(accepted(0), Ok(()));
@@ -153,7 +157,7 @@ mod tests {
     #[test]
     #[should_panic(expected = "refuses by a question")]
     fn an_unknown_number_is_no_acceptance() {
-        let _ = accepted(17);
+        let _ = accepted(18);
     }
 
     #[test]
@@ -168,5 +172,6 @@ mod tests {
         assert_eq!(Refusal::Room.number(), 10);
         assert_eq!(Refusal::Paths.number(), 14);
         assert_eq!(Refusal::SharedFactor.number(), 16);
+        assert_eq!(Refusal::LengthList.number(), 17);
     }
 }

@@ -43,8 +43,8 @@ impl Row {
         self.answer.polynomial
     }
 
-    /// How many polynomials have its counts, it among them. 0: the polynomial was
-    /// given, and nobody was compared with it.
+    /// How many polynomials have its counts, it among them; of a set, how many of
+    /// those left. 0: the polynomial was given, and nobody was compared with it.
     pub fn shared(&self) -> u64 {
         self.answer.shared
     }

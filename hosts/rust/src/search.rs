@@ -1,5 +1,5 @@
-//! The search for the best polynomial, of an order or of a shorter length, the
-//! counts of one, and their texts.
+//! The search for the best polynomial, of an order, of a shorter length or of a
+//! set of lengths, the counts of one, and their texts.
 
 use crate::refusal::accepted;
 use crate::{calls, AnyOrder, Event, Refusal, RowAnswer};
@@ -7,7 +7,7 @@ use crate::{calls, AnyOrder, Event, Refusal, RowAnswer};
 /// The least bytes of a text buffer; no text has more.
 pub const TEXT: usize = 4096;
 
-/// What is lent to a search, a quote or a count.
+/// What is lent to a search, a quote, a set or a count.
 #[derive(Debug)]
 pub struct Lent<'a> {
     pub events: &'a mut [Event],
@@ -45,6 +45,19 @@ impl Lent<'_> {
         calls::quote(
             order,
             bits,
+            self.events,
+            self.paths,
+            self.plain,
+            self.undetected,
+            self.work,
+        )
+    }
+
+    /// The same of `calls::search_set`.
+    pub fn search_set(self, order: AnyOrder, lengths: &[u64]) -> RowAnswer {
+        calls::search_set(
+            order,
+            lengths,
             self.events,
             self.paths,
             self.plain,
@@ -102,6 +115,37 @@ pub fn search(order: AnyOrder, lent: Lent) -> Result<RowAnswer, Refusal> {
 /// ```
 pub fn quote(order: AnyOrder, bits: u64, lent: Lent) -> Result<RowAnswer, Refusal> {
     lent.quote(order, bits).accepted()
+}
+
+/// One polynomial for all of these lengths, the longest first; the order's own is
+/// not looked at. Each length in turn keeps those of the polynomials still left
+/// whose first undetected weight is largest, and of those that the last one leaves
+/// the best at the longest length is found. All is told and left as `search` does
+/// for that length, but `shared` is of those left. Refusal 17: the lengths are not
+/// 1 to 8, each below the one before; 5 is about every length, 6 about the
+/// shortest, 13 about the longest, and 14 about every one.
+///
+/// ```
+/// use dohvrin::{search_set, AnyOrder, Event, Lent, WORK};
+///
+/// let order = AnyOrder::new(&[1, 3], 1, 0, 2, 5);
+/// let (mut events, mut paths, mut work) = ([Event::default(); 4], [0; 18], vec![0; WORK]);
+/// let (mut plain, mut undetected) = ([0; 4], [0; 4]);
+/// let lent = Lent {
+///     events: &mut events,
+///     paths: &mut paths,
+///     plain: &mut plain,
+///     undetected: &mut undetected,
+///     work: &mut work,
+/// };
+/// // At 4 alone 0x7 is as good.
+/// let row = search_set(order, &[4, 3], lent).unwrap();
+/// assert_eq!((row.events, row.paths), (4, 9));
+/// assert_eq!((row.polynomial, row.shared), (0x5, 1));
+/// assert_eq!((plain, undetected), ([0, 0, 4, 5], [0, 0, 0, 1]));
+/// ```
+pub fn search_set(order: AnyOrder, lengths: &[u64], lent: Lent) -> Result<RowAnswer, Refusal> {
+    lent.search_set(order, lengths).accepted()
 }
 
 /// The undetected counts of one polynomial, which question 11 asks for degree m

@@ -1,7 +1,7 @@
 //! The tables that a search needs, owned.
 
-use crate::{count, part, quote, search, words};
-use crate::{Entries, Event, Lent, NoRoom, Order, Quote, Refusal, Row, RowAnswer};
+use crate::{count, part, quote, search, search_set, words};
+use crate::{Entries, Event, LengthSet, Lent, NoRoom, Order, Quote, Refusal, Row, RowAnswer};
 use crate::{COUNTS, WORK};
 
 /// The numbers of a path.
@@ -59,6 +59,11 @@ impl Tables {
         Tables::within(Entries::needed_to(quote), limit)
     }
 
+    /// The same for a set of lengths.
+    pub fn for_set(set: &LengthSet, limit: usize) -> Result<Tables, NoRoom> {
+        Tables::within(Entries::needed_by(set), limit)
+    }
+
     fn within(needed: Entries, limit: usize) -> Result<Tables, NoRoom> {
         Tables::of(needed.within(limit)?).ok_or(NoRoom { needed, limit })
     }
@@ -84,6 +89,14 @@ impl Tables {
         let (long, short) = (quoted.long(), quoted.short());
         let answer = quote(long.any(), short.bits(), self.lent());
         self.row(short, answer)
+    }
+
+    /// The row for the longest length of a set, of the polynomial for all lengths:
+    /// `shared` is of those that every length left.
+    pub fn search_set(&mut self, set: &LengthSet) -> Result<Row, Refusal> {
+        let longest = set.longest();
+        let answer = search_set(longest.any(), &set.lengths(), self.lent());
+        self.row(longest, answer)
     }
 
     /// The row of a polynomial, without a search: `shared` is 0, as it was given
@@ -163,7 +176,7 @@ fn zeros<T: Clone + Default>(entries: usize) -> Option<Vec<T>> {
 #[cfg(test)]
 mod tests {
     use super::Tables;
-    use crate::{Entries, NoRoom, Order, Quote, Refusal, Row};
+    use crate::{AnyOrder, Entries, LengthSet, NoRoom, Order, Quote, Refusal, Row};
 
     fn code_s(bits: u64, d: u64) -> Order {
         Order::new(&[1, 3], 1, bits, 2, d).unwrap()
@@ -260,6 +273,55 @@ mod tests {
         assert_eq!(chosen(&row), (0x5, 2));
         assert_eq!(tables.undetected(), [0, 0, 0, 1]);
         assert_eq!(tables.paths_of(4).count(), 5);
+    }
+
+    fn set(d: u64, lengths: &[u64]) -> LengthSet {
+        LengthSet::of(code_s(4, d).any(), lengths).unwrap()
+    }
+
+    #[test]
+    fn a_set_of_one_length_is_its_order() {
+        for bits in 3..=8 {
+            let set = set(7, &[bits]);
+            let mut tables = Tables::for_set(&set, 1 << 20).unwrap();
+            let mut fresh = Tables::for_order(set.longest(), 1 << 20).unwrap();
+            let row = fresh.search(set.longest());
+            assert_eq!(tables.search_set(&set), row, "{bits}");
+            assert_eq!((tables.events, tables.paths), (fresh.events, fresh.paths));
+        }
+    }
+
+    #[test]
+    fn later_lengths_tell_apart_what_the_longest_does_not() {
+        let mut tables = Tables::with_entries(5, 13);
+        let row = tables.search_set(&set(5, &[4, 3])).unwrap();
+        assert_eq!((chosen(&row), row.order().bits()), ((0x5, 1), 4));
+        assert_eq!(tables.undetected(), [0, 0, 0, 1]);
+        // The shortest first would leave 0x5.
+        let row = tables.search_set(&set(5, &[5, 3])).unwrap();
+        assert_eq!((chosen(&row), row.order().bits()), ((0x7, 1), 5));
+        assert_eq!(tables.paths_of(4).count(), 5);
+    }
+
+    #[test]
+    fn a_set_needs_the_events_of_the_longest_and_the_paths_of_every_length() {
+        let refused = |set: &LengthSet, events, paths| {
+            let mut tables = Tables::with_entries(events, paths);
+            tables.search_set(set).err()
+        };
+        let four = set(6, &[4, 3]);
+        assert_eq!(refused(&four, 5, 13), None);
+        assert_eq!(refused(&four, 5, 12), Some(Refusal::Paths));
+        assert_eq!(refused(&four, 4, 12), Some(Refusal::Events));
+        // No path of 3 bits, and one of 2.
+        let any = AnyOrder::new(&[1, 3], 1, 0, 1, 3);
+        let three = LengthSet::of(any, &[3, 2]).unwrap();
+        assert_eq!(refused(&three, 2, 1), None);
+        assert_eq!(refused(&three, 2, 0), Some(Refusal::Paths));
+        let limit = 2 * 40 + 16;
+        assert!(Tables::for_set(&three, limit).is_ok());
+        let no_room = Tables::for_set(&three, limit - 1).err().unwrap();
+        assert_eq!(no_room.refusal(), Refusal::Paths);
     }
 
     #[test]

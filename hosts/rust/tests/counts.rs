@@ -2,7 +2,7 @@
 
 mod lent;
 
-use dohvrin::{collect, count, list, part, quote, row_text, search};
+use dohvrin::{collect, count, list, part, quote, row_text, search, search_set};
 use dohvrin::{AnyOrder, Event, Lent, Link, Refusal, RowAnswer, TEXT, WORK};
 use lent::lent;
 
@@ -54,6 +54,8 @@ fn one_entry_for_each_weight_from_1() {
             for (plain, undetected) in [(entries, enough), (enough, entries)] {
                 assert_eq!(accepts(plain, undetected, |l| search(order, l)), fit);
                 assert_eq!(accepts(plain, undetected, |l| count(order, 0x3, l)), fit);
+                let of_set = |l: Lent| search_set(order, &[4, 3], l);
+                assert_eq!(accepts(plain, undetected, of_set), fit);
                 if link == Link::TailBiting {
                     assert_eq!(accepts(plain, undetected, |l| quote(order, 3, l)), fit);
                 }

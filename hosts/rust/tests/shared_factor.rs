@@ -3,7 +3,7 @@
 
 mod lent;
 
-use dohvrin::{collect, count, encode, list, quote, search, weigh};
+use dohvrin::{collect, count, encode, list, quote, search, search_set, weigh};
 use dohvrin::{AnyOrder, Lent, Order, Refusal, WORK};
 use lent::lent;
 
@@ -35,6 +35,8 @@ fn before_the_tables_and_the_polynomial() {
         assert_eq!(lent(entries, work, listed), Err(NO));
         assert_eq!(lent(entries, work, |l| search(order(), l)), Err(NO));
         assert_eq!(lent(entries, work, |l| quote(order(), 3, l)), Err(NO));
+        let of_set = |l: Lent| search_set(order(), &[4, 3], l);
+        assert_eq!(lent(entries, work, of_set), Err(NO));
         for polynomial in [0x5, 0x4] {
             let counted = |l: Lent| count(order(), polynomial, l);
             assert_eq!(lent(entries, work, counted), Err(NO));

@@ -3,7 +3,7 @@
 
 mod lent;
 
-use dohvrin::{collect, count, encode, list, quote, row_text, search, weigh};
+use dohvrin::{collect, count, encode, list, quote, row_text, search, search_set, weigh};
 use dohvrin::{AnyOrder, Lent, Link, Refusal, RowAnswer, TEXT, WORK};
 use lent::lent;
 
@@ -36,6 +36,10 @@ fn before_all_other_questions() {
             assert_eq!(lent(entries, work, |l| search(order, l)), Err(NO));
             assert_eq!(lent(entries, work, |l| count(order, 0x4, l)), Err(NO));
             assert_eq!(lent(entries, work, |l| quote(order, 3, l)), Err(NO));
+            for lengths in [&[][..], &[4, 3]] {
+                let searched = |l: Lent| search_set(order, lengths, l);
+                assert_eq!(lent(entries, work, searched), Err(NO));
+            }
         }
     }
 }

@@ -20,8 +20,13 @@ standard input.
                    last line is CRC 0x61 0
   --quote N'       the row of the length N' instead, question 13 being about N;
                    several lengths as 70,64, or one after each --quote
+  --lengths L      one polynomial for all of these lengths, as 70,64,52, longest
+                   first: the row of the longest. N is asked about as ever, and
+                   else not looked at
   --list events    the events instead of the row: state length weight input
   --list paths     the paths instead of the row: weight number
+  --list left      with --lengths, what each length left instead of the row: the
+                   length, the first undetected weight, how many polynomials
   --method M       words (N up to 20), table, or both, compared (both)
   --record         the order's record on standard output instead of the row
   --help           this text
@@ -41,6 +46,7 @@ pub enum Wanted {
     Row,
     Events,
     Paths,
+    Left,
     Record(Vec<u8>),
     Help,
 }
@@ -53,6 +59,8 @@ pub struct Args {
     pub of: Option<u64>,
     /// The lengths whose rows are wanted; none for the order's own.
     pub quote: Vec<usize>,
+    /// The lengths of a set, where its row is wanted.
+    pub set: Option<Vec<usize>>,
     pub method: Method,
 }
 
@@ -61,6 +69,7 @@ struct Options {
     lent: Lent,
     of: Option<u64>,
     quote: Vec<usize>,
+    set: Option<Vec<usize>>,
     method: Option<Method>,
     list: Option<Wanted>,
     terminated: bool,
@@ -97,7 +106,8 @@ impl Options {
             "--events" => self.lent.events = capacity(option, &value()?)?,
             "--paths" => self.lent.paths = capacity(option, &value()?)?,
             "--of" => self.of = Some(polynomial(&value()?)?),
-            "--quote" => self.quote.extend(lengths(&value()?)?),
+            "--quote" => self.quote.extend(lengths(option, &value()?)?),
+            "--lengths" => self.set = Some(lengths(option, &value()?)?),
             "--method" => self.method = Some(method(&value()?)?),
             "--list" => self.list = Some(listed(&value()?)?),
             "--terminated" => self.terminated = true,
@@ -116,6 +126,7 @@ impl Options {
             lent: self.lent,
             of: self.of,
             quote: self.quote.clone(),
+            set: self.set.clone(),
             method,
         };
         if self.help {
@@ -124,6 +135,17 @@ impl Options {
         let other = self.record || self.list.is_some() || self.of.is_some();
         if other && !self.quote.is_empty() {
             return Err("--quote: not together with --record, --list or --of".to_string());
+        }
+        let of_a_set = matches!(self.list, Some(Wanted::Left));
+        if of_a_set && self.set.is_none() {
+            return Err("--list left: not without --lengths".to_string());
+        }
+        let other = other && !of_a_set || !self.quote.is_empty();
+        if other && self.set.is_some() {
+            return Err(
+                "--lengths: not together with --record, --of, --quote, or --list events or paths"
+                    .to_string(),
+            );
         }
         if self.record && (self.list.is_some() || self.of.is_some()) {
             return Err("--record: not together with --list or --of".to_string());
@@ -170,10 +192,10 @@ fn polynomial(value: &str) -> Result<u64, String> {
 }
 
 /// One length, or several between commas.
-fn lengths(value: &str) -> Result<Vec<usize>, String> {
+fn lengths(option: &str, value: &str) -> Result<Vec<usize>, String> {
     let length = |word| digits(word, 10).and_then(|number| usize::try_from(number).ok());
     let all = value.split(',').map(length).collect::<Option<_>>();
-    all.ok_or_else(|| format!("--quote {value}: not lengths such as 70 or 70,64"))
+    all.ok_or_else(|| format!("{option} {value}: not lengths such as 70 or 70,64"))
 }
 
 fn method(value: &str) -> Result<Method, String> {
@@ -189,7 +211,8 @@ fn listed(value: &str) -> Result<Wanted, String> {
     match value {
         "events" => Ok(Wanted::Events),
         "paths" => Ok(Wanted::Paths),
-        _ => Err(format!("--list {value}: neither events nor paths")),
+        "left" => Ok(Wanted::Left),
+        _ => Err(format!("--list {value}: neither events, paths nor left")),
     }
 }
 

@@ -23,6 +23,7 @@ pub mod questions;
 pub mod quote;
 pub mod row;
 pub mod search;
+pub mod set;
 pub mod table;
 pub mod trellis;
 pub mod weights;

@@ -3,6 +3,7 @@
 mod args;
 
 use args::{Args, Source, Wanted};
+use dso_ref::set::{self, Set};
 use dso_ref::{events, quote, row, words, Failure, Order, Refusal};
 use std::fmt::Display;
 use std::io::{self, BufWriter, ErrorKind, Read, Write};
@@ -81,6 +82,9 @@ fn answer(args: &Args) -> Result<(), Stop> {
         Source::Bytes(bytes) => Order::from_record(bytes)?,
         Source::Input => Order::from_record(&input()?)?,
     };
+    if let Some(lengths) = &args.set {
+        return one_for_all(&order, lengths, args);
+    }
     match args.wanted {
         Wanted::Events => lines(events::list(&order, args.lent.events)?)?,
         Wanted::Paths => {
@@ -107,6 +111,17 @@ fn quotes(order: &Order, args: &Args) -> Result<(), Stop> {
             Err(Failure::Refused(refusal)) => lines([refusal])?,
             Err(failure) => return Err(failure.into()),
         }
+    }
+    Ok(())
+}
+
+/// The row of a set of lengths, or what each of them left.
+fn one_for_all(order: &Order, lengths: &[usize], args: &Args) -> Result<(), Stop> {
+    let set = Set::new(order.code(), order.degree(), order.threshold(), lengths)?;
+    let (row, left) = set::row(&set, args.lent, args.method)?;
+    match args.wanted {
+        Wanted::Left => lines(left)?,
+        _ => lines([row])?,
     }
     Ok(())
 }

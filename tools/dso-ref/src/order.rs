@@ -1,6 +1,7 @@
 //! The order and its record.
 
 use crate::link::{Code, Kind};
+use crate::poly;
 use crate::questions::{self, Asked, Refusal};
 
 /// An order that has passed questions 2 to 9 and 16.
@@ -77,6 +78,11 @@ impl Order {
     /// The generators, in the order's order.
     pub fn generators(&self) -> &[u64] {
         &self.generators
+    }
+
+    /// The candidates of its degree, in order.
+    pub fn candidates(&self) -> Vec<u64> {
+        poly::candidates(self.degree).collect()
     }
 
     /// Its code, as the calls take it.

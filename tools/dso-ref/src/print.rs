@@ -4,6 +4,7 @@ use crate::events::Event;
 use crate::order::Order;
 use crate::questions::Refusal;
 use crate::row::Row;
+use crate::set::Left;
 use std::fmt;
 
 impl fmt::Display for Refusal {
@@ -89,5 +90,11 @@ impl fmt::Display for Event {
             "{} {} {} {}",
             self.state, self.length, self.weight, self.input
         )
+    }
+}
+
+impl fmt::Display for Left {
+    fn fmt(&self, f: &mut fmt::Formatter) -> fmt::Result {
+        write!(f, "{} {} {}", self.length, self.first, self.many)
     }
 }

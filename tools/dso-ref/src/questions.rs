@@ -1,6 +1,6 @@
 //! The questions of document 01, one function each. A call asks those that
 //! concern the values it takes, in the order of their numbers, but for 16, which
-//! stands after 9. No question has the number 15.
+//! stands after 9, and 17, which stands after 4. No question has the number 15.
 
 use crate::link::Kind;
 use crate::poly;
@@ -52,6 +52,12 @@ pub fn length(least: usize, n: usize) -> Asked {
 /// to N?
 pub fn quoted_length(v: usize, quoted: usize, n: usize) -> Asked {
     ask(5, v <= quoted && quoted <= n)
+}
+
+/// Question 17: is this a list of 1 to 8 strictly falling lengths?
+pub fn length_list(lengths: &[usize]) -> Asked {
+    let falling = lengths.windows(2).all(|pair| pair[0] > pair[1]);
+    ask(17, (1..=8).contains(&lengths.len()) && falling)
 }
 
 /// Question 6: is the check degree from 1 to 12 and below the length?

@@ -78,15 +78,22 @@ impl From<Refusal> for Failure {
 /// The row of an order: of the polynomial given, or else of the smallest of the
 /// best.
 pub fn row(order: &Order, lent: Lent, of: Option<u64>, method: Method) -> Result<Row, Failure> {
-    if let Some(p) = of {
-        questions::polynomial(p, order.degree())?;
-    }
+    let Some(p) = of else {
+        return among(order, lent, &order.candidates(), method);
+    };
+    questions::polynomial(p, order.degree())?;
+    let row = among(order, lent, &[p], method)?;
+    Ok(Row { shared: 0, ..row })
+}
+
+/// The row of an order with the smallest of the best among these candidates.
+pub fn among(order: &Order, lent: Lent, who: &[u64], method: Method) -> Result<Row, Failure> {
     let events = events::count(order, lent.events)?;
     let counted = by(
         method,
         order,
-        |words| count(words, order, lent.paths, of),
-        || count(&mut Table::new(order), order, lent.paths, of),
+        |words| count(words, order, lent.paths, who),
+        || count(&mut Table::new(order), order, lent.paths, who),
     )??;
     let Counted { plain, best } = counted;
     Ok(Row {
@@ -95,10 +102,7 @@ pub fn row(order: &Order, lent: Lent, of: Option<u64>, method: Method) -> Result
         paths: plain.iter().sum(),
         plain,
         polynomial: best.smallest(),
-        shared: match of {
-            Some(_) => 0,
-            None => best.who.len(),
-        },
+        shared: best.who.len(),
         undetected: best.counts,
     })
 }
@@ -126,25 +130,20 @@ pub fn paths(order: &Order, lent: Lent, method: Method) -> Result<Vec<(u32, u128
 pub struct Counted {
     /// Plain counts by weight, from 1.
     pub plain: Vec<u128>,
-    /// The best undetected counts, or those of the polynomial given.
+    /// The best undetected counts.
     pub best: Best,
 }
 
-/// Question 14 and all counts, by one method. A polynomial given stands alone.
+/// Question 14 and all counts, by one method. A polynomial that stands alone is
+/// the best.
 pub fn count(
     counter: &mut impl Counter,
     order: &Order,
     capacity: usize,
-    of: Option<u64>,
+    who: &[u64],
 ) -> Result<Counted, Refusal> {
     let plain = plain_within(counter, order.threshold(), capacity)?;
-    let best = match of {
-        Some(p) => Best {
-            counts: counter.undetected(p, plain.len()),
-            who: vec![p],
-        },
-        None => search::best(counter, order.degree(), &plain),
-    };
+    let best = search::best(counter, who.to_vec(), &plain);
     Ok(Counted { plain, best })
 }
 
@@ -169,7 +168,7 @@ pub fn plain_within(
 }
 
 /// What the method asked for gives; both, and compared, where both apply.
-fn by<A: PartialEq + std::fmt::Debug>(
+pub(crate) fn by<A: PartialEq + std::fmt::Debug>(
     method: Method,
     order: &Order,
     from_words: impl FnOnce(&mut Words) -> A,

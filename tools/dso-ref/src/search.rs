@@ -1,7 +1,5 @@
 //! The search for the best check polynomial.
 
-use crate::poly;
-
 /// A way to count the words of an order by weight. Weights asked for are below
 /// the order's threshold.
 pub trait Counter {
@@ -32,13 +30,12 @@ impl Best {
     }
 }
 
-/// The candidates of degree m left after the last weight. `plain` holds the
-/// plain counts of the weights to be compared, from 1.
+/// Those of the candidates left after the last weight. `plain` holds the plain
+/// counts of the weights to be compared, from 1.
 ///
 /// All candidates are counted at a weight before the next one is looked at:
 /// where words are many, few candidates are left to be counted.
-pub fn best(counter: &mut impl Counter, m: usize, plain: &[u128]) -> Best {
-    let mut who: Vec<u64> = poly::candidates(m).collect();
+pub fn best(counter: &mut impl Counter, mut who: Vec<u64>, plain: &[u128]) -> Best {
     let mut counts = Vec::new();
     for (w, &words) in (1..).zip(plain) {
         if who.len() == 1 {

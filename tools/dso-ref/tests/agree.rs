@@ -44,8 +44,8 @@ fn words_and_table_agree_on_small_orders() {
         let order = random.order(5, 11, 6, 40);
         let mut words = Words::new(&order).unwrap();
         let mut table = Table::new(&order);
-        let by_words = count(&mut words, &order, ALL, None).unwrap();
-        let by_table = count(&mut table, &order, ALL, None).unwrap();
+        let by_words = count(&mut words, &order, ALL, &order.candidates()).unwrap();
+        let by_table = count(&mut table, &order, ALL, &order.candidates()).unwrap();
         assert_eq!(by_words, by_table, "{order}");
         assert_eq!(
             by_words.best,
@@ -66,8 +66,14 @@ fn words_and_table_agree_where_the_memory_is_great() {
     let mut random = Random(2);
     for _ in 0..150 {
         let order = random.order(8, 14, 8, 64);
-        let by_words = count(&mut Words::new(&order).unwrap(), &order, ALL, None).unwrap();
-        let by_table = count(&mut Table::new(&order), &order, ALL, None).unwrap();
+        let by_words = count(
+            &mut Words::new(&order).unwrap(),
+            &order,
+            ALL,
+            &order.candidates(),
+        )
+        .unwrap();
+        let by_table = count(&mut Table::new(&order), &order, ALL, &order.candidates()).unwrap();
         assert_eq!(by_words, by_table, "{order}");
     }
 }
@@ -217,7 +223,7 @@ fn the_table_agrees_with_the_listed_paths_of_long_orders() {
         let order = random.order(6, 128, 12, 24);
         let p = candidate(&mut random, order.degree());
         let mut table = Table::new(&order);
-        if let Ok(counted) = count(&mut table, &order, 20_000, Some(p)) {
+        if let Ok(counted) = count(&mut table, &order, 20_000, &[p]) {
             let listed = paths::list(&table, order.threshold());
             let expected = weighed_and_divided(&order, &listed, p);
             assert_eq!(

@@ -1,9 +1,11 @@
-//! The answer of a search against its definition on every small order: all words
-//! are sent through the encoder as it is drawn, and the words that a candidate
-//! divides are its multiples. No method of the tool is used.
+//! The answers of a search and of a set of lengths against their definitions on
+//! every small order: all words are sent through the encoder as it is drawn, and
+//! the words that a candidate divides are its multiples. No method of the tool is
+//! used.
 
 use dso_ref::link::{Code, Kind};
 use dso_ref::row::row;
+use dso_ref::set::{self, Set};
 use dso_ref::{Lent, Method, Order, Row};
 
 /// The memories whose pairs of generators are all taken, and the greatest length
@@ -58,6 +60,15 @@ fn small_orders(kind: Kind) -> Vec<Order> {
     orders
 }
 
+/// Every candidate with its undetected counts.
+fn candidates(order: &Order) -> Vec<(u64, Vec<u128>)> {
+    let (length, m, d) = (order.length(), order.degree(), order.threshold());
+    let weights: Vec<usize> = (0..1 << length).map(|word| weight(order, word)).collect();
+    let degree_m = (1 << m..2 << m).filter(|p| p % 2 == 1);
+    let of = |p| (p, counted(&weights, &multiples(p, m, length), d));
+    degree_m.map(of).collect()
+}
+
 /// Nobody is better, nobody as good has a smaller number, and so many are as good.
 fn check(order: &Order, row: &Row, candidates: &[(u64, Vec<u128>)]) {
     let own = candidates.iter().find(|(p, _)| *p == row.polynomial);
@@ -80,11 +91,7 @@ fn every_small_search() {
     for kind in Kind::ALL {
         let (mut alone, mut among_some, mut among_all) = (0, 0, 0);
         for order in small_orders(kind) {
-            let (length, m, d) = (order.length(), order.degree(), order.threshold());
-            let weights: Vec<usize> = (0..1 << length).map(|word| weight(&order, word)).collect();
-            let degree_m = (1 << m..2 << m).filter(|p| p % 2 == 1);
-            let of = |p| (p, counted(&weights, &multiples(p, m, length), d));
-            let candidates: Vec<(u64, Vec<u128>)> = degree_m.map(of).collect();
+            let candidates = candidates(&order);
             let row = row(&order, Lent::default(), None, Method::Both).unwrap();
             check(&order, &row, &candidates);
             match row.shared {
@@ -97,6 +104,43 @@ fn every_small_search() {
         assert!(
             seen.iter().all(|&orders| orders > 100),
             "{kind:?}: {seen:?}"
+        );
+    }
+}
+
+/// The place of the first count above 0, or past the last, of this candidate.
+fn first_above_0(p: u64, all: &[(u64, Vec<u128>)]) -> usize {
+    let (_, counts) = all.iter().find(|(q, _)| *q == p).expect("a candidate");
+    let first = counts.iter().position(|&count| count > 0);
+    first.unwrap_or(counts.len())
+}
+
+#[test]
+fn every_small_set_of_two_lengths() {
+    for kind in Kind::ALL {
+        let (mut kept_all, mut narrowed_later) = (0, 0);
+        for order in small_orders(kind) {
+            let (length, m, d) = (order.length(), order.degree(), order.threshold());
+            let long = candidates(&order);
+            for shorter in order.memory().max(m + 1)..length {
+                let set = Set::new(order.code(), m, d, &[length, shorter]).unwrap();
+                let (row, left) = set::row(&set, Lent::default(), Method::Both).unwrap();
+                let mut alive = long.clone();
+                for (order, left) in set.orders().iter().zip(&left) {
+                    let all = candidates(order);
+                    let firsts = alive.iter().map(|(p, _)| first_above_0(*p, &all));
+                    let largest = firsts.max().unwrap();
+                    alive.retain(|(p, _)| first_above_0(*p, &all) == largest);
+                    assert_eq!((left.first, left.many), (largest + 1, alive.len()));
+                }
+                check(&order, &row, &alive);
+                kept_all += usize::from(left[0].many == long.len());
+                narrowed_later += usize::from(left[1].many < left[0].many);
+            }
+        }
+        assert!(
+            kept_all > 100 && narrowed_later > 100,
+            "{kind:?}: {kept_all} {narrowed_later}"
         );
     }
 }

@@ -97,8 +97,14 @@ fn code_s_of_length_4() {
         counts: vec![0, 0, 0, 1],
         who: vec![0x5, 0x7],
     };
-    let by_table = count(&mut Table::new(&two), &two, 2048, None).unwrap();
-    let by_words = count(&mut Words::new(&two).unwrap(), &two, 2048, None).unwrap();
+    let by_table = count(&mut Table::new(&two), &two, 2048, &two.candidates()).unwrap();
+    let by_words = count(
+        &mut Words::new(&two).unwrap(),
+        &two,
+        2048,
+        &two.candidates(),
+    )
+    .unwrap();
     assert_eq!([&by_table.best, &by_words.best], [&best; 2]);
     assert_eq!(chosen(&order(4, 2, 6, &[1, 3])), (0x5, 1));
 }

@@ -11,8 +11,8 @@
 //! ORDER 2 1 4 2 6 1 3
 //! ```
 //!
-//! `tables` and `of` may be left out; in place of `of` there may be `quote 3`. A
-//! byte may be repeated: `00*65536`. More lines with # may follow the first; a
+//! `tables` and `of` may be left out; in place of `of` there may be `quote 3`, or
+//! `lengths 4,3`. A byte may be repeated: `00*65536`. More lines with # may follow the first; a
 //! block of them alone is a remark.
 
 /// A record and what a program is to print for it.
@@ -28,13 +28,20 @@ pub struct Case {
     pub of: Option<String>,
     /// The length that is to be quoted, where given.
     pub quote: Option<String>,
+    /// The lengths of a set, between commas, where given.
+    pub lengths: Option<String>,
     pub expected: String,
 }
 
 impl Case {
     /// Whether a program that takes no options can be run on the case.
     pub fn plain(&self) -> bool {
-        self.tables.is_none() && self.of.is_none() && self.quote.is_none()
+        self.tables.is_none() && self.asks_for_the_best()
+    }
+
+    /// Whether no line says what is asked for.
+    fn asks_for_the_best(&self) -> bool {
+        self.of.is_none() && self.quote.is_none() && self.lengths.is_none()
     }
 }
 
@@ -93,11 +100,15 @@ fn take_line(case: &mut Case, line: &str) -> Result<(), String> {
         ["tables", events, paths] if case.tables.is_none() => {
             case.tables = Some((number_of(events)?, number_of(paths)?));
         }
-        ["of", polynomial] if case.of.is_none() && case.quote.is_none() => {
+        ["of", polynomial] if case.asks_for_the_best() => {
             case.of = Some(polynomial.to_string());
         }
-        ["quote", length] if case.of.is_none() && case.quote.is_none() => {
+        ["quote", length] if case.asks_for_the_best() => {
             case.quote = Some(number_of(length)?);
+        }
+        ["lengths", list] if case.asks_for_the_best() => {
+            let lengths: Result<Vec<String>, String> = list.split(',').map(number_of).collect();
+            case.lengths = Some(lengths?.join(","));
         }
         _ => return Err(format!("not understood: {line}")),
     }
@@ -156,6 +167,14 @@ mod tests {
     }
 
     #[test]
+    fn lengths_of_a_set() {
+        let text = "# for all\nrecord 00\nlengths 070,64\nexpect\nNO 1\n";
+        let case = &read(text).unwrap()[0];
+        let lengths = case.lengths.as_deref();
+        assert_eq!((lengths, case.plain()), (Some("70,64"), false));
+    }
+
+    #[test]
     fn what_is_not_understood_is_an_error() {
         for text in [
             "",
@@ -176,6 +195,9 @@ mod tests {
             "# two lengths\nrecord 00\nquote 3 4\nexpect\nNO 1\n",
             "# two quotes\nrecord 00\nquote 3\nquote 4\nexpect\nNO 1\n",
             "# of and quote\nrecord 00\nof 0x5\nquote 3\nexpect\nNO 1\n",
+            "# no length\nrecord 00\nlengths 4,\nexpect\nNO 1\n",
+            "# two lists\nrecord 00\nlengths 4,3\nlengths 4\nexpect\nNO 1\n",
+            "# quote and lengths\nrecord 00\nquote 3\nlengths 4\nexpect\nNO 1\n",
             "# quote and of\nrecord 00\nquote 3\nof 0x5\nexpect\nNO 1\n",
         ] {
             assert!(read(text).is_err(), "{text}");

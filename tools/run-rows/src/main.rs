@@ -13,10 +13,10 @@ compares standard output byte for byte. A line for each failure; the last line
 is `N passed, M failed`.
 
   ref      (the rule) PROGRAM is called as dso-ref: -, --events, --paths, --of,
-           --quote
+           --quote, --lengths
   sized    the same, but --events and --paths are always given
   plain    PROGRAM takes no arguments: only the cases with default tables and
-           without an `of` or `quote` line are run and counted
+           without an `of`, `quote` or `lengths` line are run and counted
 
 Exit status: 0 all passed; 1 some failed, or none ran; 2 bad arguments, or a
 file cannot be read, has no case or is not understood.
@@ -142,6 +142,9 @@ fn command(style: Style, program: &str, case: &Case) -> Command {
         }
         if let Some(length) = &case.quote {
             command.args(["--quote", length]);
+        }
+        if let Some(lengths) = &case.lengths {
+            command.args(["--lengths", lengths]);
         }
     }
     command

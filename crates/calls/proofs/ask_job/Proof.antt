@@ -31,6 +31,12 @@ enum-told-3 c = search needs
 ask-both-requires : tie.Need-ask-both-requires
 ask-both-requires c κs = tt
 
+enum-told-4 : tie.Need-enum-told-4
+enum-told-4 c = search needs
+
+ask-both-requires-2 : tie.Need-ask-both-requires-2
+ask-both-requires-2 c κs = tt
+
 enum-known-job : tie.Need-enum-known-job
 enum-known-job c = search needs
 
@@ -51,7 +57,11 @@ returns-3 c = let a = c .before .before .before .args in for-job (a .m) (a .entr
 
 returns-4 : tie.Need-returns-4
 unfolding jobQuestions
-returns-4 c = let a = c .before .before .before .before .args in for-job (a .m) (a .entries) (a .plain) (a .undetected) (a .size) (c .before .before .job .given .1) (c .ask-polynomial .ensures)
+returns-4 c = let a = c .before .before .before .args in for-job (a .m) (a .entries) (a .plain) (a .undetected) (a .size) (c .before .enum-told4 .given .1) (c .ask-both2 .ensures)
+
+returns-5 : tie.Need-returns-5
+unfolding jobQuestions
+returns-5 c = let a = c .before .before .before .before .args in for-job (a .m) (a .entries) (a .plain) (a .undetected) (a .size) (c .before .before .job .given .1) (c .ask-polynomial .ensures)
 
 pub ask-job-spec : {M : Type 1} → statement M
 ask-job-spec =
@@ -63,9 +73,12 @@ ask-job-spec =
     ask-counts-requires
     enum-told-3
     ask-both-requires
+    enum-told-4
+    ask-both-requires-2
     enum-known-job
     ask-polynomial-requires
     returns
     returns-2
     returns-3
-    returns-4)
+    returns-4
+    returns-5)

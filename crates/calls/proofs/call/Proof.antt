@@ -4,6 +4,7 @@ use Rattle.walks.proofs.Frame.{ℕ, length, refl, sym, _∙_, ap, List, [], _�
 use Rattle.walks.proofs.Frame.{counts, calls, calls-asked, relend-all, finish, by-steps-asked}
 use Rattle.order.specs.Answer.{unlessRefused}
 use Rattle.order.specs.Answers.{orderIn}
+use Rattle.lengths.specs.Shorter.{shorterIn}
 use Rattle.jobs.specs.Jobs.{SearchTables, searchTables, ran}
 use Rattle.jobs.specs.Model.Steps.{rowOrder}
 use Rattle.jobs.proofs.Plains.{Answered, Plan, tables}
@@ -28,4 +29,4 @@ call-spec 𝓤 H 𝓜 𝓖 𝓡 =
     relend-all ! g lists refl $
     calls-asked 𝓣 ! g (entries ks) (res number why is-why ∷ val plan ∷ lists) Answered here.run.Met.met (λ z. to-make (plan .it) (plain .was) (undetected .was) (work .was) sound (sym asked ∙ z)) refl (λ r is-r left told same.
     finish 𝓣 ! g (ends r is-r left same
-    (told ∙ ap (λ (k : ℕ). unlessRefused k t (ran (plan .it .job) (orderIn (plan .it .order)) (rowOrder (plan .it)) t)) asked)) refl)))
+    (told ∙ ap (λ (k : ℕ). unlessRefused k t (ran (plan .it .job) (shorterIn (plan .it .shorter)) (orderIn (plan .it .order)) (rowOrder (plan .it)) t)) asked)) refl)))

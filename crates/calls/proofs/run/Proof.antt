@@ -17,6 +17,7 @@ use Rattle.row.specs.declared.Row.{Row}
 use Rattle.row.specs.declared.Answered as SS
 use Rattle.row.specs.declared.Answered.the-variants as A
 use Rattle.row.specs.Answered.{answeredAs, refusalOf}
+use Rattle.lengths.specs.Shorter.{shorterIn}
 use Rattle.jobs.specs.declared.Plan as SP
 use Rattle.jobs.specs.Jobs.{SearchTables, searchTables, clearedSearch, ran}
 use Rattle.jobs.specs.Model.Steps.{rowOrder, MadeAs}
@@ -40,7 +41,7 @@ refusal-told (A.Refused k) = refl
 
 module _ (why : ℕ) (plan : SP.Plan) (t : SearchTables) where
   abbrev outcome : Outcome
-  outcome = ran (plan .job) (orderIn (plan .order)) (rowOrder plan) t
+  outcome = ran (plan .job) (shorterIn (plan .shorter)) (orderIn (plan .order)) (rowOrder plan) t
 
   abbrev Says : SS.Answered → SearchTables → Type 0
   Says r left = _≡_ {A = Outcome} (answeredAs r, left) (unlessRefused why t outcome)
@@ -57,7 +58,7 @@ module _ (why : ℕ) (plan : SP.Plan) (t : SearchTables) where
     unfolding clearedSearch cleared
     is-cleared n es ls ms ds us e-es e-ls e-ms e-ds e-us =
         ap₂ (λ (a : Answer Row) (x : SearchTables). (a, x)) (done .answered) (λ i. searchTables (e-es i) (e-ls i) (e-ms i) (e-ds i) (e-us i))
-        ∙ sym (late (orderIn (plan .order)) (rowOrder plan) t (plan .job) (λ z. n (is ∙ sym (refusal-told r) ∙ ap refusalNumber (done .answered) ∙ z)))
+        ∙ sym (late (plan .shorter) (orderIn (plan .order)) (rowOrder plan) t (plan .job) (λ z. n (is ∙ sym (refusal-told r) ∙ ap refusalNumber (done .answered) ∙ z)))
         ∙ leaves-answered t outcome why (sym good)
 
 zeros-as : {A : Type 0} (z : A) (l m : List A) (n : ℕ) → m ≡ replicate (length l) z → length l ≡ n → m ≡ replicate n z

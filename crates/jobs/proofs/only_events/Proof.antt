@@ -15,6 +15,9 @@ enum-told-2 c = search needs
 enum-told-3 : tie.Need-enum-told-3
 enum-told-3 c = search needs
 
+enum-told-4 : tie.Need-enum-told-4
+enum-told-4 c = search needs
+
 enum-known-job : tie.Need-enum-known-job
 enum-known-job c = search needs
 
@@ -32,7 +35,11 @@ returns-3 c = sym (ap onlyEvents (c .enum-told3 .given .1))
 
 returns-4 : tie.Need-returns-4
 unfolding onlyEvents
-returns-4 c = sym (ap onlyEvents (c .before .job .given .1))
+returns-4 c = sym (ap onlyEvents (c .enum-told4 .given .1))
+
+returns-5 : tie.Need-returns-5
+unfolding onlyEvents
+returns-5 c = sym (ap onlyEvents (c .before .job .given .1))
 
 pub only-events-spec : {M : Type 1} → statement M
 only-events-spec =
@@ -41,8 +48,10 @@ only-events-spec =
     enum-told
     enum-told-2
     enum-told-3
+    enum-told-4
     enum-known-job
     returns
     returns-2
     returns-3
-    returns-4)
+    returns-4
+    returns-5)

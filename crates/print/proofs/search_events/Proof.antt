@@ -26,6 +26,7 @@ use Rattle.order.specs.declared.record.OrderRecord.{OrderRecord}
 use Rattle.row.specs.declared.Row.{Row}
 use Rattle.row.specs.declared.Answered as SS
 use Rattle.row.specs.Answered.{answeredAs}
+use Rattle.lengths.specs.Shorter.{shorterIn}
 use Rattle.jobs.specs.declared.Job.the-variants as J
 use Rattle.jobs.specs.declared.Plan as SP
 use Rattle.jobs.specs.Jobs.{SearchTables, searchTables, ran}
@@ -58,10 +59,10 @@ module _ (order : OrderRecord) (plan : SP.Plan) (is : plan ≡ ownPlan everythin
   may-run : ToMake plan (t .plain) (t .undetected) (t .work)
   may-run = to-make plan (t .plain) (t .undetected) (t .work) (own-sound everything J.Choose order plan is (le-refl 2) (le-refl 128) refl refl) none-asked
 
-  as-search : (x : Answer Row × SearchTables) → x ≡ unlessRefused 0 t (ran (plan .job) (orderIn (plan .order)) (rowOrder plan) t) → x ≡ searchCall (orderIn order) t
+  as-search : (x : Answer Row × SearchTables) → x ≡ unlessRefused 0 t (ran (plan .job) (shorterIn (plan .shorter)) (orderIn (plan .order)) (rowOrder plan) t) → x ≡ searchCall (orderIn order) t
   unfolding call searchCall rowOrder
   as-search x told =
-      own-told everything J.Choose order plan is (λ y. y) t (told ∙ ap (λ (k : ℕ). unlessRefused k t (ran (plan .job) (orderIn (plan .order)) (rowOrder plan) t)) (sym none-asked))
+      own-told everything J.Choose order plan is (λ y. y) t (told ∙ ap (λ (k : ℕ). unlessRefused k t (ran (plan .job) (shorterIn (plan .shorter)) (orderIn (plan .order)) (rowOrder plan) t)) (sym none-asked))
 
 -- the counts are those of a search with a table of zeros
 counts-told : (o : O.Order) (r : SS.Answered) (es : List S.Event) (ls ms ds us ps cs vs ws : List ℕ) → (answeredAs r, searchTables es ls ms ds us) ≡ searchCall o (searchTables (replicate size zeros) ps cs vs ws)

@@ -65,3 +65,9 @@ pub record ToCountFrom (bits entries m p first start : ℕ) (table plain undetec
   pub each : ToCount bits entries m p table plain undetected
   pub begun : first ≤ entries
   pub placed : start ≡ pathsTo plain first
+
+-- the first weight of which p divides a word: weights stay below 64
+pub record ToFindFirst (bits entries m p : ℕ) (table plain : List ℕ) : Type 0 where
+  pub readable : Readable bits entries table plain
+  pub divisor : Divisor m p
+  pub few : entries ≤ 63

@@ -20,6 +20,7 @@ mod random;
 mod records;
 mod search;
 mod searched;
+mod sets;
 mod sizes;
 mod stored;
 mod tally;
@@ -35,6 +36,7 @@ const USAGE: &str = "\
 usage: compare                  every call
        compare --short          every call on few inputs, as for valgrind
        compare --quotes N       every length of so many orders, alone
+       compare --sets N         so many small orders with sets of lengths, alone
        compare --records N      so many orders by record alone
        compare --sizes N        so many orders whose sizes are counted, alone
        compare --rows FILE...   the stored cases of these files";
@@ -44,7 +46,7 @@ type Family = fn(u64) -> Tally;
 
 /// Every family with its number of inputs, and that of a short run, in which
 /// each question still refuses some. The two large orders are not in it.
-const FAMILIES: [(Family, u64, u64); 27] = [
+const FAMILIES: [(Family, u64, u64); 30] = [
     (checks::append, 400_000, 1_000),
     (checks::strip, 400_000, 1_000),
     (checks::test, 400_000, 1_000),
@@ -68,6 +70,9 @@ const FAMILIES: [(Family, u64, u64); 27] = [
     (quote::small_tables, 2_000, 16),
     (quote::long_tables, 40, 3),
     (quote::shorter_events, 1_500, 20),
+    (sets::sets, 4_000, 300),
+    (sets::small_tables, 1_200, 40),
+    (sets::long_tables, 40, 2),
     (sizes::counted, 4_000, 20),
     (texts::row_text, 100_000, 300),
     (texts::refusal_text, 100_000, 300),
@@ -99,6 +104,7 @@ fn run(arguments: &[String]) -> Result<(u64, u64), String> {
         [] => Ok(tallied(FAMILIES.map(|(call, inputs, _)| (call, inputs)))),
         ["--short"] => Ok(tallied(FAMILIES.map(|(call, _, few)| (call, few)))),
         ["--quotes", number] => alone(quote::small_tables, number),
+        ["--sets", number] => alone(sets::small_tables, number),
         ["--records", number] => alone(orders::orders, number),
         ["--sizes", number] => alone(sizes::counted, number),
         ["--rows", _, ..] => stored::rows(&arguments[1..]),

@@ -7,7 +7,7 @@ use crate::random::Random;
 use crate::records;
 use crate::searched::Asked;
 use crate::tally::Tally;
-use dohvrin::{Quote, Tables};
+use dohvrin::{LengthSet, Quote, Tables};
 use dso_ref::row::row;
 use dso_ref::{Failure, Lent, Method, Order, Refusal, Row};
 
@@ -82,6 +82,10 @@ pub fn answer(tables: &mut Tables, bytes: &[u8], asked: Asked) -> String {
         Asked::Best => tables.search(&order),
         Asked::Of(p) => tables.count(&order, p),
         Asked::Quote(bits) => Quote::of(order.any(), bits).and_then(|quote| tables.quote(&quote)),
+        Asked::Set(list) => {
+            let set = LengthSet::of(order.any(), list.all());
+            set.and_then(|set| tables.search_set(&set))
+        }
     });
     match row {
         Ok(row) => row.text(),

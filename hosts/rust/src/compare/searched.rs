@@ -1,5 +1,5 @@
-//! One call of a search, a count or a quote, with its five lent tables: what it
-//! must answer and leave. Whole tables are compared, and what stands around them.
+//! One call of a search, a count, a quote or a set, with its five lent tables: what
+//! it must answer and leave. Whole tables are compared, and what stands around them.
 
 use crate::codes::Input;
 use crate::guards::Guarded;
@@ -8,10 +8,11 @@ use crate::paths;
 use crate::random::Random;
 use crate::tally::Tally;
 use crate::{number, row_answer, size};
-use dohvrin::{AnyOrder, RowAnswer};
+use dohvrin::{AnyOrder, RowAnswer, LENGTHS};
 use dso_ref::quote::Quote;
 use dso_ref::search::{best, Best, Counter};
-use dso_ref::{events, questions, Order, Refusal};
+use dso_ref::set::Set;
+use dso_ref::{events, poly, questions, Order, Refusal};
 
 /// One call: the order, what is asked for, and the sizes of what is lent.
 #[derive(Clone, Copy, Debug)]
@@ -31,6 +32,27 @@ pub enum Asked {
     Of(u64),
     /// The best for this length, from the events for the order's.
     Quote(u64),
+    /// The best for all of these lengths.
+    Set(List),
+}
+
+/// Lengths, as many as a set may have or one more.
+#[derive(Clone, Copy, Debug)]
+pub struct List {
+    lengths: [u64; LENGTHS + 1],
+    many: usize,
+}
+
+impl List {
+    pub fn of(given: &[u64]) -> List {
+        let (mut lengths, many) = ([0; LENGTHS + 1], given.len());
+        lengths[..many].copy_from_slice(given);
+        List { lengths, many }
+    }
+
+    pub fn all(&self) -> &[u64] {
+        &self.lengths[..self.many]
+    }
 }
 
 /// The tables of a listing, and the undetected counts.
@@ -49,12 +71,23 @@ impl Call {
         }
     }
 
-    /// What the row is for: another length, where that is quoted.
+    /// What the row is for: another length, where that is quoted, or the longest of
+    /// a set.
     pub fn input_of_row(&self) -> Input {
         match self.asked {
             Asked::Quote(bits) => Input { bits, ..self.input },
+            Asked::Set(list) => Input {
+                bits: list.all().first().copied().unwrap_or(0),
+                ..self.input
+            },
             _ => self.input,
         }
+    }
+
+    /// The second tool's set of these lengths.
+    pub fn set(&self, list: List) -> Result<Set, Refusal> {
+        let lengths: Vec<usize> = list.all().iter().map(|&bits| size(bits)).collect();
+        Set::new(self.input.code(), size(self.m), size(self.d), &lengths)
     }
 
     /// The order of the row, or the number of the first question before 13 that
@@ -64,6 +97,7 @@ impl Call {
         let code = self.input.code();
         let order = match self.asked {
             Asked::Quote(bits) => Quote::new(code, m, d, size(bits)).map(|quote| quote.short),
+            Asked::Set(list) => self.set(list).map(|set| set.longest().clone()),
             _ => Order::new(code, m, d),
         };
         let asked = |order: Order| {
@@ -102,11 +136,8 @@ impl Call {
     pub fn best(&self, counter: &mut impl Counter) -> Best {
         let plain = counter.plain(size(self.d) - 1);
         match self.asked {
-            Asked::Of(p) => Best {
-                counts: counter.undetected(p, plain.len()),
-                who: vec![p],
-            },
-            _ => best(counter, size(self.m), &plain),
+            Asked::Of(p) => best(counter, vec![p], &plain),
+            _ => best(counter, poly::candidates(size(self.m)).collect(), &plain),
         }
     }
 }
@@ -179,16 +210,19 @@ impl Lent {
         match call.asked {
             Asked::Best => self.lent().search(order),
             Asked::Quote(bits) => self.lent().quote(order, bits),
+            Asked::Set(list) => self.lent().search_set(order, list.all()),
             Asked::Of(polynomial) => self.lent().count(order, polynomial),
         }
     }
 
-    /// Whether a search for the length of a quote, with tables of the same sizes,
-    /// answers and leaves the same; the event table is another one. It need not
-    /// where the quote was refused by 13 or before.
-    fn is_fresh(&self, call: &Call, quoted: RowAnswer) -> bool {
-        let (Asked::Quote(bits), 0 | 14) = (call.asked, quoted.refusal) else {
-            return true;
+    /// Whether a search for the length of a quote, or for that of a set of one, with
+    /// tables of the same sizes, answers and leaves the same. Of a quote the event
+    /// table is another one, and it need not where that was refused by 13 or before.
+    fn is_fresh(&self, call: &Call, answered: RowAnswer) -> bool {
+        let (bits, quoted) = match (call.asked, answered.refusal) {
+            (Asked::Quote(bits), 0 | 14) => (bits, true),
+            (Asked::Set(list), _) if list.many == 1 => (list.lengths[0], false),
+            _ => return true,
         };
         let mut fresh = Lent::new(call.lent);
         let order = AnyOrder {
@@ -197,7 +231,8 @@ impl Lent {
         };
         let answer = fresh.lent().search(order);
         let (ours, theirs) = (&self.listing, &fresh.listing);
-        answer == quoted
+        answer == answered
+            && (quoted || ours.events == theirs.events)
             && ours.paths == theirs.paths
             && ours.counts == theirs.counts
             && self.undetected == fresh.undetected
@@ -209,6 +244,7 @@ impl Lent {
         let answer = match call.asked {
             Asked::Best => dohvrin::search(order, self.lent()),
             Asked::Quote(bits) => dohvrin::quote(order, bits, self.lent()),
+            Asked::Set(list) => dohvrin::search_set(order, list.all(), self.lent()),
             Asked::Of(polynomial) => dohvrin::count(order, polynomial, self.lent()),
         };
         (answer.map_err(|no| no.number()), self.is_left(expected))

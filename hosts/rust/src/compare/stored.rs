@@ -2,7 +2,7 @@
 //! sizes that a case says.
 
 use crate::orders::{answer, lend};
-use crate::searched::Asked;
+use crate::searched::{Asked, List};
 use dso_ref::Lent;
 use run_rows::cases::{self, Case};
 
@@ -37,10 +37,14 @@ fn asked(case: &Case) -> Option<(Lent, Asked)> {
             paths: paths.parse().ok()?,
         },
     };
-    let asked = match (&case.of, &case.quote) {
-        (None, None) => Asked::Best,
-        (Some(p), None) => Asked::Of(u64::from_str_radix(p.strip_prefix("0x")?, 16).ok()?),
-        (None, Some(length)) => Asked::Quote(length.parse().ok()?),
+    let asked = match (&case.of, &case.quote, &case.lengths) {
+        (None, None, None) => Asked::Best,
+        (Some(p), None, None) => Asked::Of(u64::from_str_radix(p.strip_prefix("0x")?, 16).ok()?),
+        (None, Some(length), None) => Asked::Quote(length.parse().ok()?),
+        (None, None, Some(lengths)) => {
+            let lengths = lengths.split(',').map(|length| length.parse().ok());
+            Asked::Set(List::of(&lengths.collect::<Option<Vec<_>>>()?))
+        }
         _ => return None,
     };
     Some((lent, asked))

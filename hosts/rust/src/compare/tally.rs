@@ -57,7 +57,7 @@ pub struct Tally {
     accepted: Inputs,
     kinds: Vec<Kind>,
     /// By the question's number.
-    refused: [Inputs; 17],
+    refused: [Inputs; 18],
     pub passed: u64,
     pub failed: u64,
 }
@@ -70,7 +70,7 @@ impl Tally {
             links: false,
             accepted: Inputs::default(),
             kinds: Vec::new(),
-            refused: [Inputs::default(); 17],
+            refused: [Inputs::default(); 18],
             passed: 0,
             failed: 0,
         }

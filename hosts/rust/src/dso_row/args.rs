@@ -3,7 +3,7 @@
 use crate::asked::Asked;
 use crate::desk::Desk;
 use crate::memory::Memory;
-use crate::numbers::{digits, Numbers};
+use crate::numbers::{self, digits, Numbers};
 use dohvrin::{Entries, Link};
 use std::thread;
 
@@ -55,6 +55,7 @@ impl Args {
         Desk {
             entries: self.entries,
             memory: Memory::new(self.memory << 20),
+            left: self.json || matches!(self.task, Task::Checklist(_)),
         }
     }
 }
@@ -66,6 +67,7 @@ struct Options {
     terminated: bool,
     of: Option<u64>,
     quote: Vec<u64>,
+    sets: Vec<Vec<u64>>,
     jobs: Option<usize>,
     memory: Option<usize>,
     events: Option<usize>,
@@ -133,7 +135,8 @@ impl Options {
             "--json" => self.json = true,
             "--terminated" => self.terminated = true,
             "--of" => self.of = Some(polynomial(&value()?)?),
-            "--quote" => self.quote.extend(lengths(&value()?)?),
+            "--quote" => self.quote.extend(lengths(option, &value()?)?),
+            "--lengths" => self.sets.push(lengths(option, &value()?)?),
             "--jobs" => self.jobs = Some(jobs(&value()?)?),
             "--memory" => self.memory = Some(memory(&value()?)?),
             "--events" => self.events = Some(entries(option, &value()?)?),
@@ -166,11 +169,13 @@ impl Options {
             Some(Other::Record | Other::RecordHex) => (false, false, false),
         };
         let (has_of, has_quote) = (self.of.is_some(), !self.quote.is_empty());
+        let has_set = !self.sets.is_empty();
         let other = self.other.as_ref().map_or("", Other::option);
         for (option, given, may_stand) in [
             ("--json", self.json, json),
             ("--of", has_of, of),
             ("--quote", has_quote, quote),
+            ("--lengths", has_set, quote),
         ] {
             if given && !may_stand {
                 return Err(format!("{option}: not together with {other}"));
@@ -179,12 +184,16 @@ impl Options {
         if has_of && has_quote {
             return Err("--quote: not together with --of".to_string());
         }
+        if has_set && (has_of || has_quote) {
+            return Err("--lengths: not together with --of or --quote".to_string());
+        }
         Ok(())
     }
 
     fn asked(&self) -> Vec<Asked> {
         match self.of {
             Some(polynomial) => vec![Asked::Of(polynomial)],
+            None if !self.sets.is_empty() => self.sets.iter().cloned().map(Asked::Set).collect(),
             None if self.quote.is_empty() => vec![Asked::Best],
             None => self.quote.iter().map(|&bits| Asked::Quote(bits)).collect(),
         }
@@ -261,11 +270,9 @@ fn polynomial(value: &str) -> Result<u64, String> {
         .ok_or_else(|| format!("--of {value}: not a polynomial in hexadecimal such as 0x61"))
 }
 
-/// One length, or several between commas.
-fn lengths(value: &str) -> Result<Vec<u64>, String> {
-    let all = value.split(',').map(|word| digits(word, 10));
-    all.collect::<Option<_>>()
-        .ok_or_else(|| format!("--quote {value}: not lengths such as 70 or 70,64"))
+fn lengths(option: &str, value: &str) -> Result<Vec<u64>, String> {
+    numbers::lengths(value)
+        .ok_or_else(|| format!("{option} {value}: not lengths such as 70 or 70,64"))
 }
 
 fn jobs(value: &str) -> Result<usize, String> {

@@ -1,10 +1,11 @@
 //! Whether rows that were printed before are what is computed now.
 
 use crate::args::Args;
-use crate::asked::{Asked, QUOTE};
+use crate::asked::Asked;
 use crate::desk::Desk;
+use crate::head::Head;
 use crate::jobs::{self, Notes};
-use crate::numbers::{digits, kind_of, Numbers};
+use crate::numbers::{digits, Numbers};
 use crate::{put, text_of, Stop};
 use dohvrin::Link;
 use std::fmt;
@@ -45,11 +46,11 @@ pub fn write(file: &str, args: &Args) -> Result<(), Stop> {
     }
     let (desk, link, checked) = (args.desk(), args.link, rows.len());
     let (mut at, mut differ) = (0, 0);
-    let asked = args.asked[0];
+    let asked = args.asked[0].clone();
     let compare = move |row: &Vec<String>, notes: Notes| {
         let head = Head::of(&row[0]);
-        let asked = head.quote.map_or(asked, Asked::Quote);
-        let lines = |numbers: &Numbers| lines(&desk, numbers, asked, notes);
+        let asked = head.asked.as_ref().unwrap_or(&asked).clone();
+        let lines = |numbers: &Numbers| lines(&desk, numbers, &asked, notes);
         (row[0].trim().to_string(), verdict(row, head, link, lines))
     };
     jobs::run(rows, args.jobs, compare, |(order, verdict)| {
@@ -67,9 +68,9 @@ pub fn write(file: &str, args: &Args) -> Result<(), Stop> {
 
 /// What is computed now, under the line of the order itself: that is what a row
 /// has before which a length to quote stands.
-fn lines(desk: &Desk, numbers: &Numbers, asked: Asked, notes: Notes) -> String {
+fn lines(desk: &Desk, numbers: &Numbers, asked: &Asked, notes: Notes) -> String {
     let text = match desk.one_of(numbers, asked, notes) {
-        Ok(row) => row.text(),
+        Ok((row, _)) => row.text(),
         Err(refusal) => return format!("{numbers}\n{}", refusal.text()),
     };
     match (asked, text.split_once('\n')) {
@@ -79,8 +80,8 @@ fn lines(desk: &Desk, numbers: &Numbers, asked: Asked, notes: Notes) -> String {
 }
 
 /// The rows of a text: each begins at an ORDER line, before which a length to
-/// quote and the kind of link may stand. Empty lines are passed over; the error
-/// is a line that stands before the first ORDER line.
+/// quote or the lengths of a set, and the kind of link may stand. Empty lines are
+/// passed over; the error is a line that stands before the first ORDER line.
 fn rows(text: &str) -> Result<Vec<Vec<String>>, String> {
     let mut rows: Vec<Vec<String>> = Vec::new();
     for line in text.split('\n').filter(|line| !line.trim().is_empty()) {
@@ -93,32 +94,6 @@ fn rows(text: &str) -> Result<Vec<Vec<String>>, String> {
         }
     }
     Ok(rows)
-}
-
-/// The line at which a row begins, with what a list has before ORDER.
-struct Head<'a> {
-    /// The length that was to be quoted.
-    quote: Option<u64>,
-    kind: Option<Link>,
-    /// The line from ORDER on.
-    order: &'a str,
-}
-
-impl Head<'_> {
-    fn of(line: &str) -> Head<'_> {
-        let quote = first(line, |word| (word == QUOTE).then_some(()));
-        let quote = quote.and_then(|(_, rest)| first(rest, |word| digits(word, 10)));
-        let (quote, line) = quote.map_or((None, line), |(bits, rest)| (Some(bits), rest));
-        let kind = first(line, kind_of);
-        let (kind, order) = kind.map_or((None, line), |(kind, rest)| (Some(kind), rest));
-        Head { quote, kind, order }
-    }
-}
-
-/// What the first word of a line says, and the line after it.
-fn first<T>(line: &str, says: impl Fn(&str) -> Option<T>) -> Option<(T, &str)> {
-    let (word, rest) = line.split_once(' ')?;
-    Some((says(word)?, rest))
 }
 
 /// How a printed row compares with what is computed now. A row does not say the

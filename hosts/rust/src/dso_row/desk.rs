@@ -2,6 +2,7 @@
 
 use crate::asked::{Asked, Wanted};
 use crate::jobs::{Note, Notes};
+use crate::lengths::Left;
 use crate::memory::{Memory, Share};
 use crate::numbers::Numbers;
 use dohvrin::{Entries, NoRoom, Refusal, Row, Tables};
@@ -14,11 +15,14 @@ pub struct Desk {
     pub entries: Option<Entries>,
     /// What the tables of all jobs share.
     pub memory: Arc<Memory>,
+    /// Whether what each length of a set left is to be found, too.
+    pub left: bool,
 }
 
 /// A row or a refusal, and the tables that it left.
 pub struct Made {
     pub answer: Result<Row, Refusal>,
+    pub left: Vec<Left>,
     pub tables: Tables,
     /// Given back after the tables, which stand before it.
     _share: Option<Share>,
@@ -28,6 +32,7 @@ impl Made {
     fn refused(refusal: Refusal) -> Made {
         Made {
             answer: Err(refusal),
+            left: Vec::new(),
             tables: Tables::with_entries(0, 0),
             _share: None,
         }
@@ -51,8 +56,14 @@ impl Desk {
         }
     }
 
-    /// The row that is asked for, one of several: notes have its line before them.
-    pub fn one_of(&self, numbers: &Numbers, asked: Asked, notes: Notes) -> Result<Row, Refusal> {
+    /// The row that is asked for, one of several, and what each length left: notes
+    /// have its line before them.
+    pub fn one_of(
+        &self,
+        numbers: &Numbers,
+        asked: &Asked,
+        notes: Notes,
+    ) -> Result<(Row, Vec<Left>), Refusal> {
         let line = asked.line(numbers);
         notes(Note::Now(line.replace("ORDER ", "")));
         let about = |note| {
@@ -60,7 +71,10 @@ impl Desk {
                 notes(Note::Tell(format!("{line}: {message}")));
             }
         };
-        let row = |wanted: Wanted| self.row(&wanted, &about).answer;
+        let row = |wanted: Wanted| {
+            let made = self.row(&wanted, &about);
+            Ok((made.answer?, made.left))
+        };
         asked.of(numbers.any()).and_then(row)
     }
 
@@ -98,8 +112,14 @@ impl Desk {
         let share = Some(self.memory.take(bytes));
         let mut tables = Tables::of(entries).ok_or(no_room)?;
         notes(Note::Now(format!("tables of {entries}")));
+        let answer = wanted.row(&mut tables);
+        let left = match answer {
+            Ok(_) if self.left => wanted.left(&mut tables),
+            _ => Vec::new(),
+        };
         Ok(Made {
-            answer: wanted.row(&mut tables),
+            answer,
+            left,
             tables,
             _share: share,
         })
@@ -160,6 +180,7 @@ mod tests {
         Desk {
             entries: None,
             memory: Memory::new(mebibytes << 20),
+            left: false,
         }
     }
 

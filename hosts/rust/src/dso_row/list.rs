@@ -2,6 +2,8 @@
 
 use crate::args::Args;
 use crate::asked::Asked;
+use crate::head::Head;
+use crate::lengths::Left;
 use crate::numbers::Numbers;
 use crate::{jobs, json, put, text_of, Stop};
 use dohvrin::{Link, Refusal, Row};
@@ -16,46 +18,63 @@ pub fn write(file: &str, args: &Args) -> Result<(), Stop> {
     }
     let (desk, as_json) = (args.desk(), args.json);
     let lines = move |(numbers, asked): &(Numbers, Asked), notes: jobs::Notes| {
-        let answer = desk.one_of(numbers, *asked, notes);
+        let answer = desk.one_of(numbers, asked, notes);
         match as_json {
-            true => in_json(numbers, *asked, answer),
-            false => in_lines(numbers, *asked, answer),
+            true => in_json(numbers, asked, answer),
+            false => in_lines(numbers, asked, answer),
         }
     };
-    let rows = rows(&orders, &args.asked);
+    let rows = rows(orders, &args.asked);
     jobs::run(rows, args.jobs, lines, |row| Ok(put(row.as_bytes())?))
 }
 
-/// A row or a refusal as `--check` reads it again: the kind of link, which a row
-/// does not say, stands before it.
-fn in_lines(numbers: &Numbers, asked: Asked, answer: Result<Row, Refusal>) -> String {
+/// A row and what each length of its set left, or a refusal.
+type Answer = Result<(Row, Vec<Left>), Refusal>;
+
+/// A row or a refusal as `--check` reads it again: what a row does not say, the
+/// kind of link and the lengths of a set, stands before it.
+fn in_lines(numbers: &Numbers, asked: &Asked, answer: Answer) -> String {
     match answer {
-        Ok(row) => numbers.kind_before() + &row.text(),
+        Ok((row, _)) => asked.before(numbers) + &row.text(),
         Err(refusal) => format!("{}\n{}", asked.line(numbers), refusal.text()),
     }
 }
 
-/// The same as JSON, which has a place for the kind.
-fn in_json(numbers: &Numbers, asked: Asked, answer: Result<Row, Refusal>) -> String {
-    let text = match answer {
-        Ok(row) => row.text(),
-        Err(refusal) => format!("{}\n{}", asked.printed(numbers), refusal.text()),
+/// The same as JSON, which has a place for both.
+fn in_json(numbers: &Numbers, asked: &Asked, answer: Answer) -> String {
+    let link = numbers.link();
+    match answer {
+        Ok((row, left)) => json::of(&row.text(), link, &left),
+        Err(refusal) => {
+            let text = format!("{}\n{}", asked.printed(numbers), refusal.text());
+            json::refused(&text, link, asked)
+        }
+    }
+}
+
+/// All that is asked for of each order in turn: what its line says, or else the
+/// options.
+fn rows(orders: Vec<(Numbers, Option<Asked>)>, asked: &[Asked]) -> Vec<(Numbers, Asked)> {
+    let of_one = |(order, own): (Numbers, Option<Asked>)| {
+        let asked = own.map_or(asked.to_vec(), |own| vec![own]);
+        asked.into_iter().map(move |one| (order.clone(), one))
     };
-    json::of(&text, numbers.link())
+    orders.into_iter().flat_map(of_one).collect()
 }
 
-/// All that is asked for of each order in turn.
-fn rows(orders: &[Numbers], asked: &[Asked]) -> Vec<(Numbers, Asked)> {
-    let of_one = |order: &Numbers| asked.iter().map(|&one| (order.clone(), one)).collect();
-    orders.iter().flat_map::<Vec<_>, _>(of_one).collect()
-}
-
-/// The order of each line, of this kind of link where the line does not say it;
-/// empty lines and # lines are passed over. The error says in which line it is.
-fn orders(text: &str, link: Link) -> Result<Vec<Numbers>, String> {
+/// The order of each line, of this kind of link where the line does not say it,
+/// and what the line asks for; empty lines and # lines are passed over. The error
+/// says in which line it is.
+fn orders(text: &str, link: Link) -> Result<Vec<(Numbers, Option<Asked>)>, String> {
     let lines = text.lines().zip(1..);
+    let read = |(line, at): (&str, usize)| {
+        let head = Head::of(line.trim_start());
+        let numbers = Numbers::read_line(head.order, head.kind.unwrap_or(link));
+        let numbers = numbers.map_err(|why| format!("line {at}: {why}"))?;
+        Ok((numbers, head.asked))
+    };
     lines
         .filter(|(line, _)| !line.trim().is_empty() && !line.starts_with('#'))
-        .map(|(line, at)| Numbers::read_line(line, link).map_err(|why| format!("line {at}: {why}")))
+        .map(read)
         .collect()
 }

@@ -6,15 +6,17 @@ mod asked;
 mod check;
 mod checklist;
 mod desk;
+mod head;
 mod jobs;
 mod json;
+mod lengths;
 mod list;
 mod memory;
 mod numbers;
 mod progress;
 
 use args::{Args, Source, Task};
-use asked::Wanted;
+use asked::{Asked, Wanted};
 use desk::Made;
 use dohvrin::{Link, Order, Refusal};
 use jobs::Note;
@@ -54,7 +56,9 @@ fn main() -> ExitCode {
     let stop = match args::read(arguments) {
         Err(message) => Err(Stop::Arguments(message)),
         Ok(args) => match answer(&args) {
-            Err(Stop::Refused(refusal)) => refused("", refusal, args.link, args.json),
+            Err(Stop::Refused(refusal)) => {
+                refused("", refusal, args.link, &args.asked[0], args.json)
+            }
             other => other,
         },
     };
@@ -79,8 +83,13 @@ fn answer(args: &Args) -> Result<(), Stop> {
     match &args.task {
         Task::Help => put(args::HELP.as_bytes())?,
         Task::Row(source) => each(source, args, |wanted| {
-            let row = made(wanted, args)?.answer?;
-            Ok(put_row(&row.text(), row.order().link(), args.json)?)
+            let Made { answer, left, .. } = made(wanted, args)?;
+            let row = answer?;
+            let text = match args.json {
+                true => json::of(&row.text(), row.order().link(), &left),
+                false => row.text(),
+            };
+            Ok(put(text.as_bytes())?)
         })?,
         Task::Checklist(source) => each(source, args, |wanted| sign(wanted, args))?,
         Task::Record(source) => put(&order(source)?.record())?,
@@ -111,7 +120,9 @@ fn each(
         };
         let wanted = asked.of(numbers.any()).map_err(Stop::from);
         match wanted.and_then(&answer) {
-            Err(Stop::Refused(refusal)) => refused(&head, refusal, numbers.link(), args.json)?,
+            Err(Stop::Refused(refusal)) => {
+                refused(&head, refusal, numbers.link(), asked, args.json)?;
+            }
             other => other?,
         }
     }
@@ -143,13 +154,18 @@ fn made(wanted: Wanted, args: &Args) -> Result<Made, Stop> {
 
 /// The row and the checklist.
 fn sign(wanted: Wanted, args: &Args) -> Result<(), Stop> {
-    let Made { answer, tables, .. } = made(wanted, args)?;
+    let Made {
+        answer,
+        left,
+        tables,
+        ..
+    } = made(wanted, args)?;
     let row = answer?;
-    put_row(&row.text(), row.order().link(), false)?;
+    put(row.text().as_bytes())?;
     let (points, right) = jobs::alone(move |notes| {
         notes(Note::Now("the checklist".to_string()));
         let mut points = Vec::new();
-        let right = checklist::write(&mut points, &row, &tables);
+        let right = checklist::write(&mut points, &row, &left, &tables);
         right.map(|right| (points, right))
     })??;
     put(&points)?;
@@ -172,19 +188,20 @@ fn text_of(file: &str) -> io::Result<String> {
 }
 
 /// The line of a refusal under this head, and on standard error what it means.
-fn refused(head: &str, refusal: Refusal, link: Link, json: bool) -> Result<(), Stop> {
-    put_row(&format!("{head}{}", refusal.text()), link, json)?;
+fn refused(
+    head: &str,
+    refusal: Refusal,
+    link: Link,
+    asked: &Asked,
+    json: bool,
+) -> Result<(), Stop> {
+    let mut text = format!("{head}{}", refusal.text());
+    if json {
+        text = json::refused(&text, link, asked);
+    }
+    put(text.as_bytes())?;
     tell(&refusal.to_string());
     Ok(())
-}
-
-/// The lines of a row; those of JSON say the kind of link with the order.
-fn put_row(text: &str, link: Link, json: bool) -> io::Result<()> {
-    if json {
-        put(json::of(text, link).as_bytes())
-    } else {
-        put(text.as_bytes())
-    }
 }
 
 fn put(bytes: &[u8]) -> io::Result<()> {

@@ -130,6 +130,11 @@ impl fmt::Display for Numbers {
     }
 }
 
+/// One length, or several between commas.
+pub fn lengths(value: &str) -> Option<Vec<u64>> {
+    value.split(',').map(|word| digits(word, 10)).collect()
+}
+
 /// A number of digits alone: the parser of the language would take a sign.
 pub fn digits(word: &str, radix: u32) -> Option<u64> {
     if word.starts_with('+') {

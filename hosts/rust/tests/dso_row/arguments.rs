@@ -9,6 +9,7 @@ fn help() {
     for option in [
         "--of",
         "--quote",
+        "--lengths",
         "--json",
         "--terminated",
         "--checklist",

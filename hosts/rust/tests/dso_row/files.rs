@@ -197,6 +197,11 @@ fn a_list_is_the_same_when_it_is_checked() {
         ("--quote 70,64", ""),
         ("--terminated --quote 40,7,3", ""),
         ("--quote 4,3,0,5,20,128,129", ""),
+        ("--lengths 20,7,3", ""),
+        (
+            "--terminated --lengths 9,8 --lengths 4,5 --lengths 129,4",
+            "",
+        ),
         ("--of 0x43", "--of 0x43"),
         ("--events 60 --paths 50", "--events 60 --paths 50"),
         ("--events 4 --paths 50 --quote 3", "--events 4 --paths 50"),

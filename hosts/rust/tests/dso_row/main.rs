@@ -3,6 +3,7 @@
 mod arguments;
 mod checklist;
 mod files;
+mod lengths;
 mod older;
 mod quote;
 mod rows;

@@ -38,10 +38,16 @@ impl Choice<'_> {
     }
 }
 
-/// Whether the paths give the same choice: the smallest of those with the best
+/// Whether the paths give the same choice among these polynomials: the smallest of those with the best
 /// counts, how many these are, and the counts.
-pub fn write(out: &mut impl Write, order: &Order, row: &Choice, paths: &Paths) -> io::Result<bool> {
-    let ranked = ranked(order, paths);
+pub fn write(
+    out: &mut impl Write,
+    order: &Order,
+    who: &[u64],
+    row: &Choice,
+    paths: &Paths,
+) -> io::Result<bool> {
+    let ranked = ranked(order, who, paths);
     let counts = &ranked[0].counts;
     let sharing = ranked.partition_point(|candidate| candidate.counts == *counts);
     let (first, others) = ranked.split_at(sharing);
@@ -51,7 +57,7 @@ pub fn write(out: &mut impl Write, order: &Order, row: &Choice, paths: &Paths) -
         undetected: counts,
     };
     let (p, unseen) = (best.polynomial, listed(counts));
-    writeln!(out, "\n4. Rivals, of {} polynomials", 1 << (order.m() - 1))?;
+    writeln!(out, "\n4. Rivals, of {} polynomials", who.len())?;
     writeln!(out, "   best by the listed paths: 0x{p:X}, {unseen}")?;
     if first.len() > 1 {
         writeln!(out, "   and {}", more(&first[1..]))?;
@@ -102,8 +108,8 @@ fn listed(counts: &[u64]) -> String {
 /// The best candidates, and all others with the same counts as the last of
 /// them; those with the same counts in increasing order, which sorting keeps. At
 /// each weight those are dropped that are not among the best so far.
-fn ranked(order: &Order, paths: &Paths) -> Vec<Candidate> {
-    let mut alive = candidates(order);
+fn ranked(order: &Order, who: &[u64], paths: &Paths) -> Vec<Candidate> {
+    let mut alive = candidates(order, who);
     for part in &paths.by_weight {
         count(&mut alive, part);
         alive.sort_by(|one, other| one.counts.cmp(&other.counts));
@@ -137,12 +143,10 @@ fn count(alive: &mut [Candidate], part: &[u128]) {
     }
 }
 
-/// All polynomials of degree m with constant term 1.
-fn candidates(order: &Order) -> Vec<Candidate> {
-    let top = 1 << order.m();
-    (top | 1..2 * top)
-        .step_by(2)
-        .map(|polynomial| Candidate {
+/// These polynomials, before the first weight.
+fn candidates(order: &Order, who: &[u64]) -> Vec<Candidate> {
+    who.iter()
+        .map(|&polynomial| Candidate {
             polynomial,
             remainders: Remainders::new(polynomial, order.m(), order.bits()),
             counts: Vec::new(),
@@ -154,6 +158,7 @@ fn candidates(order: &Order) -> Vec<Candidate> {
 mod tests {
     use super::{candidates, more, write, Choice};
     use crate::checklist::Paths;
+    use crate::lengths::all_of_degree;
     use dohvrin::{Order, Tables};
 
     /// Whether a choice is the one for code S with N = 4, and what is said of it.
@@ -167,7 +172,8 @@ mod tests {
             undetected,
         };
         let (mut out, paths) = (Vec::new(), Paths::of(&order, &tables));
-        let right = write(&mut out, &order, &choice, &paths).unwrap();
+        let who = all_of_degree(&order);
+        let right = write(&mut out, &order, &who, &choice, &paths).unwrap();
         (right, String::from_utf8(out).unwrap())
     }
 
@@ -210,13 +216,14 @@ mod tests {
         let mut tables = Tables::with_entries(1, 0);
         let row = tables.search(&order).unwrap();
         let (mut out, paths) = (Vec::new(), Paths::of(&order, &tables));
-        assert!(write(&mut out, &order, &Choice::of(&row), &paths).unwrap());
+        let who = all_of_degree(&order);
+        assert!(write(&mut out, &order, &who, &Choice::of(&row), &paths).unwrap());
         let text = String::from_utf8(out).unwrap();
         assert!(text.contains("best by the listed paths: 0x41, nothing undetected\n"));
         assert!(text.contains("\n   and 31 more with the same counts: 0x43 "));
         assert!(text.ends_with(" 0x61 ..\n"), "{text}");
         // As many as are named, and one more.
-        let all = candidates(&order);
+        let all = candidates(&order, &who);
         assert!(more(&all[..16]).ends_with(" 0x5F"));
         assert!(more(&all[..17]).ends_with(" 0x5F .."));
     }

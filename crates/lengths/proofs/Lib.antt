@@ -1,0 +1,3 @@
+pub mod Plains
+pub mod Listed
+pub mod Noting

@@ -1,0 +1,2 @@
+pub mod Shorter
+pub mod Model

@@ -1,0 +1,6 @@
+pub mod Narrowed
+pub mod OneLength
+pub mod Rank
+pub mod Ranked
+mod Written
+mod Largest
