@@ -5,21 +5,18 @@ ghost use Rattle.order.specs.Questions.{first_no, room, work_size, check_polynom
 ghost use Rattle.order.specs.Answer.{unless_refused};
 ghost use Rattle.order.specs.Answers.{order_in};
 ghost use Rattle.row.specs.Answered.{answered_as};
-ghost use Rattle.order.specs.Model.Accepted.{Accepted};
-ghost use Rattle.limit.specs.Walks.{walk_count};
-ghost use Rattle.tally.specs.Model.Classes.{Tells};
-ghost use Rattle.jobs.specs.Jobs.{search_tables};
-ghost use Rattle.jobs.specs.Model.Steps.{ToMake, MadeAs};
-ghost use Rattle.calls.specs.Calls.{job_questions, questions, runs, call as called};
-ghost use Rattle.calls.specs.Model.Plans.{limit_refusal, call_in, Sound};
+ghost use Rattle.lengths.specs.Shorter.{shorter_in};
+ghost use Rattle.jobs.specs.Jobs.{search_tables, ran};
+ghost use Rattle.jobs.specs.Model.Steps.{row_order, ToMake};
+ghost use Rattle.calls.specs.Calls.{job_questions, questions, call as called};
+ghost use Rattle.calls.specs.Model.Plans.{call_in, Sound};
 
 use events::{Event, clear_events};
 use jobs::{Job, Plan, make, row_order};
 use lists::clear_words;
 use order::questions::{WORK_SIZE, counted_weights, is_check_polynomial};
 use order::record::ask_order;
-use row::{Answered, refusal_of, refuse, with_walks};
-use tally::{Tally, count_walks};
+use row::{Answered, refusal_of, refuse};
 
 // ---- the questions
 
@@ -80,7 +77,7 @@ fn ask_job(job: Job, m: u64, entries: u64, plain: usize, undetected: usize, size
     }
 }
 
-// All questions of a plan before 18: the number of the first that says no, or 0.
+// All questions of a plan before 13: the number of the first that says no, or 0.
 pub fn ask(plan: Plan, plain: usize, undetected: usize, size: usize) -> u64
     ensures { result ≡ first_no (questions (call_in plan) plain undetected size) }
 {
@@ -101,55 +98,7 @@ pub fn ask(plan: Plan, plain: usize, undetected: usize, size: usize) -> u64
     )
 }
 
-// ---- question 18
-
-// The walks of the order that events are collected for, counted up to the limit.
-fn tally_for(plan: Plan) -> Tally
-    requires { Accepted (order_in plan.order) }
-    ensures { Tells plan.limit (walk_count (order_in plan.order)) result }
-{
-    let order = plan.order;
-    count_walks(order, plan.limit)
-}
-
-// 18 where they pass the limit, or 0.
-fn limit_refusal(t: Tally) -> u64
-    ensures { result ≡ limit_refusal t }
-{
-    if t.passed {
-        return 18;
-    }
-    0
-}
-
-fn walks_of(t: Tally) -> u64
-    ensures { result ≡ t.count }
-{
-    t.count
-}
-
 // ---- the walk
-
-// The job of a plan within its limit: the walks are counted first, and told with the row. Where it is refused, with 18, 13 or 14, nothing is said of the tables.
-fn make_within(
-    plan: Plan,
-    events: &mut [Event],
-    paths: &mut [u64],
-    plain: &mut [u64],
-    undetected: &mut [u64],
-    work: &mut [u64],
-) -> Answered
-    requires { ToMake plan plain.old undetected.old work.old }
-    ensures { MadeAs (runs (call_in plan) (search_tables events.old paths.old plain.old undetected.old work.old)) (answered_as result) (search_tables events.new paths.new plain.new undetected.new work.new) }
-{
-    let tally = tally_for(plan);
-    let over = limit_refusal(tally);
-    if over != 0 {
-        return refuse(18);
-    }
-    let row = make(plan, events, paths, plain, undetected, work);
-    with_walks(row, walks_of(tally))
-}
 
 // A plan is run, where its questions have refused with `why`, or with 0 not at all: what follows an accepted order asks nothing again. Refused so,
 // nothing is changed; refused later, all that is lent is zero.
@@ -163,12 +112,12 @@ pub fn run(
     work: &mut [u64],
 ) -> Answered
     requires { why ≡ 0 → ToMake plan plain.old undetected.old work.old }
-    ensures { (answered_as result, search_tables events.new paths.new plain.new undetected.new work.new) ≡ unless_refused why (search_tables events.old paths.old plain.old undetected.old work.old) (runs (call_in plan) (search_tables events.old paths.old plain.old undetected.old work.old)) }
+    ensures { (answered_as result, search_tables events.new paths.new plain.new undetected.new work.new) ≡ unless_refused why (search_tables events.old paths.old plain.old undetected.old work.old) (ran plan.job (shorter_in plan.shorter) (order_in plan.order) (row_order plan) (search_tables events.old paths.old plain.old undetected.old work.old)) }
 {
     if why != 0 {
         return refuse(why);
     }
-    let row = make_within(plan, events, paths, plain, undetected, work);
+    let row = make(plan, events, paths, plain, undetected, work);
     let refusal = refusal_of(row);
     if refusal != 0 {
         clear_events(events);

@@ -40,12 +40,12 @@ dropped_before (suc k) j [] h = refl
 dropped_before (suc k) zero (b ∷ alive) h = refl
 dropped_before (suc k) (suc j) (b ∷ alive) h = dropped_before k j alive (le_of_suc-le-suc h)
 
-pub dropped-after : (k j : ℕ) (alive : List Bool) → k ≤ j → get_or (dropped k alive) j false ≡ get_or alive j false
+pub dropped_after : (k j : ℕ) (alive : List Bool) → k ≤ j → get_or (dropped k alive) j false ≡ get_or alive j false
 unfolding dropped
-dropped-after zero j alive h = refl
-dropped-after (suc k) j [] h = refl
-dropped-after (suc k) zero (b ∷ alive) h = absurd (omega arith)
-dropped-after (suc k) (suc j) (b ∷ alive) h = dropped-after k j alive (le_of_suc-le-suc h)
+dropped_after zero j alive h = refl
+dropped_after (suc k) j [] h = refl
+dropped_after (suc k) zero (b ∷ alive) h = absurd (omega arith)
+dropped_after (suc k) (suc j) (b ∷ alive) h = dropped_after k j alive (le_of_suc-le-suc h)
 
 pub put_down_at : (k : ℕ) (alive : List Bool) → get_or (set alive k false) k false ≡ false
 put_down_at k [] = refl

@@ -17,7 +17,7 @@ use Rattle.lists.proofs.Tests.{passes_or_fails, true_of_T, and_yes, and_no}
 use Rattle.choice.specs.Choice.{fewer}
 use Rattle.choice.specs.Model.Steps.{dropped}
 use Rattle.choice.proofs.Fewer.{not_itself, fewer_transitive, fewer_asymmetric, fewer-total}
-use Rattle.choice.proofs.Flags.{put_down_at, dropped_before, dropped-after}
+use Rattle.choice.proofs.Flags.{put_down_at, dropped_before, dropped_after}
 
 -- the best of those before k that are up, to begin with that of the first
 unfoldable pub leader : (ℕ → List ℕ) → (ℕ → Bool) → (first k : ℕ) → List ℕ
@@ -188,8 +188,8 @@ module _ (f : ℕ → List ℕ) (up : ℕ → Bool) (first : ℕ) where
           (λ j h.
           dropped_before k j alive h
           ∙ ⊎_elim (λ u. bettered_down (up j) (fewer (f k) (f j)) (passed-by t j h u)) (λ d. and_no (up j) _ d) (up_or_down (up j)))
-          (dropped-after k k alive (omega arith) ∙ here ∙ level_stays (up k) (fewer (f k) (f k)) (not_itself (f k)))
-          (λ j h. dropped-after k j alive (omega arith) ∙ later j h)
+          (dropped_after k k alive (omega arith) ∙ here ∙ level_stays (up k) (fewer (f k) (f k)) (not_itself (f k)))
+          (λ j h. dropped_after k j alive (omega arith) ∙ later j h)
 
       pub alive-level : f k ≡ lead k → Alive f up first (k + 1) alive
       alive-level e =

@@ -11,7 +11,6 @@ use lib.ListN.{get_or, set, replicate, length-replicate, get_or-replicate}
 use lib.Seq.{get_or-set_same, get_or-set_other}
 use Rattle.lists.specs.Lists.{up_from, filter}
 use Rattle.lists.proofs.Tests.{true_of_T, false_of_T_not}
-use Rattle.lists.proofs.Filters.{filter-all}
 use Rattle.lists.proofs.Member.{up_from_bounds, in_up_from, of-filter, in-filter}
 use Rattle.lists.proofs.Sorted.{Sorted, up_from-sorted, filter-sorted}
 use Rattle.choice.specs.Choice.{candidates, first_of}
@@ -19,6 +18,25 @@ use Rattle.choice.specs.Model.Steps.{alive_below, offered_by}
 use Rattle.choice.proofs.Candidates.{few_candidates}
 use Rattle.choice.proofs.Flags.{none_below, below_up, none_between}
 use Rattle.choice.proofs.Best.{first_of_member, first_least}
+
+-- ---- tests on lists
+
+module _ {A : Type 0} (f : A → Bool) where
+  filter-all : (xs : List A) → ((x : A) → Memᴰ x xs → f x ≡ true) → filter f xs ≡ xs
+  unfolding filter
+  filter-all [] pass = refl
+  filter-all (x ∷ xs) pass =
+      ap₂ (λ (b : Bool) (rest : List A). cond b (x ∷ rest) rest) (pass x (Memᴰ.head refl)) (filter-all xs (λ y m. pass y (Memᴰ.tail m)))
+
+  -- both tests at once
+  pub filter-filter : (g : A → Bool) (xs : List A) → filter g (filter f xs) ≡ filter (λ x. f x && g x) xs
+  unfolding filter
+  filter-filter g [] = refl
+  filter-filter g (x ∷ xs) = by (f x) (filter-filter g xs)
+    where
+      by : (b : Bool) {l : List A} → filter g (filter f xs) ≡ l → filter g (cond b (x ∷ filter f xs) (filter f xs)) ≡ cond (b && g x) (x ∷ l) l
+      by true e = ap (λ (rest : List A). cond (g x) (x ∷ rest) rest) e
+      by false e = e
 
 -- ---- the flags that are up
 

@@ -12,12 +12,12 @@ use lib.ListN.{length}
 use Rattle.lists.specs.Lists.{up_from, filter}
 use Rattle.lists.proofs.Tests.{true_of_T, false_of_T_not}
 use Rattle.lists.proofs.Member.{up_from_bounds}
-use Rattle.lists.proofs.Filters.{filter-cong-on, filter_map, filter-filter}
+use Rattle.lists.proofs.Filters.{filter-cong-on, filter_map}
 use Rattle.choice.specs.Choice.{fewer, unbettered, best, first_of}
 use Rattle.choice.specs.Model.Steps.{alive_below, offered_by}
 use Rattle.choice.proofs.Fewer.{not_itself}
 use Rattle.choice.proofs.Best.{first_of_member, unbettered⇔unbeaten, of-best, best-nonempty}
-use Rattle.choice.proofs.Offered.{up, Up, offered-number, offered-member}
+use Rattle.choice.proofs.Offered.{filter-filter, up, Up, offered-number, offered-member}
 use Rattle.choice.proofs.Leader.{leader, Alive, Among, leader-member, leader-least, level-or-worse, up_or_down}
 
 module _ (m : ℕ) (counts : ℕ → List ℕ) where
@@ -115,5 +115,5 @@ module _ (m : ℕ) (counts : ℕ → List ℕ) where
             ap (map name)
             (filter-cong-on (up alive) (λ k. up flags k && left (name k)) all
             (λ k member. let b = up_from_bounds 0 (2 ^ (m - 1)) member in flag_at k (omega arith))
-            ∙ sym (filter-filter (λ k. left (name k)) (up flags) all))
+            ∙ sym (filter-filter (up flags) (λ k. left (name k)) all))
             ∙ sym (filter_map left name (filter (up flags) all))

@@ -46,7 +46,7 @@ use Rattle.jobs.specs.declared.Job.TheVariants as J
 use Rattle.jobs.specs.declared.Plan.{Plan}
 use Rattle.row.specs.Answered.{row, answered_as}
 use Rattle.jobs.specs.Jobs.{SearchTables, search_tables, cleared_search, filled_search, chosen, collected, listed, counted, rows_of, made, ran}
-use Rattle.jobs.specs.Model.Steps.{row_order, only_events, listed_before, ToList, ToChooseFor, ToServe, JobAsks, ToFinishOver, LeftBy, ToNarrow, ToFinish, ChoseOf, Finished, ran_by, MadeAs}
+use Rattle.jobs.specs.Model.Steps.{row_order, only_events, listed_before, ToList, ToChooseFor, ToServe, JobAsks, ToFinishOver, LeftBy, ToNarrow, ToFinish, ChoseOf, Finished, MadeAs}
 use Rattle.jobs.proofs.Fits.{fit-or-not, too-many-events, too-many-paths, all_fit}
 
 abbrev Outcome : Type 0
@@ -64,15 +64,6 @@ few_served s o serve = omega (arith, serve.few, length-map-up_from (length_at s)
 alone_chosen : (counts : ℕ → List ℕ) (p : ℕ) → shared_by (λ n. 0) (choice_among counts (p ∷ [])) ≡ record { polynomial = p; shared = 0; undetected = counts p }
 unfolding choice_among first_of
 alone_chosen counts p = ap (λ (ps : List ℕ). record { polynomial = first_of ps; shared = 0; undetected = counts (first_of ps) }) (best_alone counts p)
-
--- where all fit, nothing is refused
-pub made_accepted : (job : Job) (Ns : List ℕ) (l o : Order) (t : SearchTables) → refusal_number (made job Ns l o t).0 ≡ 0
-unfolding refusal_number made collected listed chosen counted
-made_accepted J.Collect Ns l o t = refl
-made_accepted J.List Ns l o t = refl
-made_accepted J.Choose Ns l o t = refl
-made_accepted J.ChooseFor Ns l o t = refl
-made_accepted (J.Count p) Ns l o t = refl
 
 -- events collected for l, a row for o
 module _ (s : Shorter) (l o : Order) (t : SearchTables) where
@@ -109,9 +100,17 @@ module _ (s : Shorter) (l o : Order) (t : SearchTables) where
     | inr fits ↦ ⊎_elim (λ h. inl (ran-made fits job h)) (λ h. inr (13, ran-14 fits job h)) (fit-or-not np (rows_of job Ns o))
   ]
 
+  made-accepted : (job : Job) → refusal_number (made job Ns l o t).0 ≡ 0
+  unfolding refusal_number made collected listed chosen counted
+  made-accepted J.Collect = refl
+  made-accepted J.List = refl
+  made-accepted J.Choose = refl
+  made-accepted J.ChooseFor = refl
+  made-accepted (J.Count p) = refl
+
   pub late : (job : Job) → (refusal_number (ran job Ns l o t).0 ≡ 0 → ⊥) → ran job Ns l o t ≡ ((ran job Ns l o t).0, cleared_search t)
   late job some = ⊎_elim
-      (λ e. absurd (some (sym (ap (λ (x : Outcome). refusal_number x.0) e) ∙ made_accepted job Ns l o t)))
+      (λ e. absurd (some (sym (ap (λ (x : Outcome). refusal_number x.0) e) ∙ made-accepted job)))
       (λ e. e.1 ∙ ap (λ (x : Outcome). (x.0, cleared_search t)) (sym e.1))
       (ended job)
 
@@ -305,21 +304,21 @@ module _ (plan : Plan) (t : SearchTables) where
   abbrev others : List Order
   others = for_each (shorter_in (listed_before plan.job plan.shorter)) o
 
-  pub made_as : (x : Answer Row) (left : SearchTables) → ◌≡◌ {A = Outcome} (x, left) (ran_by plan t) → MadeAs (ran_by plan t) x left
+  pub made_as : (x : Answer Row) (left : SearchTables) → ◌≡◌ {A = Outcome} (x, left) (ran plan.job (shorter_in plan.shorter) longer o t) → MadeAs plan t x left
   made_as x left e = record { answered = ap (λ (y : Outcome). y.0) e; leaves = λ _. ap (λ (y : Outcome). y.1) e }
 
-  refused_as : (k : ℕ) (r : Answered) (left : SearchTables) → r ≡ A.Refused (suc k) → ran_by plan t ≡ (refused (suc k), cleared_search t) → MadeAs (ran_by plan t) (answered_as r) left
+  refused_as : (k : ℕ) (r : Answered) (left : SearchTables) → r ≡ A.Refused (suc k) → ran plan.job (shorter_in plan.shorter) longer o t ≡ (refused (suc k), cleared_search t) → MadeAs plan t (answered_as r) left
   unfolding refusal_number
   refused_as k r left e h = record {
     answered = ap answered_as e ∙ sym (ap (λ (y : Outcome). y.0) h);
     leaves = λ z. let is = ap (λ (x : Answered). refusal_number (answered_as x)) e in absurd (omega arith);
   }
 
-  pub as-13 : (r : Answered) (left : SearchTables) → r ≡ A.Refused 13 → length t.events < length (events longer) → MadeAs (ran_by plan t) (answered_as r) left
+  pub as-13 : (r : Answered) (left : SearchTables) → r ≡ A.Refused 13 → length t.events < length (events longer) → MadeAs plan t (answered_as r) left
   as-13 r left e h = refused_as 12 r left e (ran-13 plan.shorter longer o t plan.job h)
 
   pub as-14 : (r : Answered) (left : SearchTables) → r ≡ A.Refused 14 → only_events plan.job ≡ 0 → length (events longer) ≤ length t.events → OneTooMany (length t.paths) (o ∷ others)
-      → MadeAs (ran_by plan t) (answered_as r) left
+      → MadeAs plan t (answered_as r) left
   as-14 r left e z f h = refused_as 13 r left e (ran-14 plan.shorter longer o t f plan.job (subst (OneTooMany (length t.paths)) (sym (row_first plan.job plan.shorter o z)) h))
 
   module _ (es : List Event) (us : List ℕ) (n : ℕ) (events-left : AllEvents longer t.events es n) (zeros : us ≡ cleared 0 t.work) where
@@ -327,7 +326,7 @@ module _ (plan : Plan) (t : SearchTables) where
     unfolding rows_of AllFit
     none-listed is = subst (λ (job : Job). AllFit (length t.paths) (rows_of job (shorter_in plan.shorter) o)) (sym is) tt
 
-    pub as-collected : (r : Answered) → r ≡ A.Row (row n 0 0 0) → (only_events plan.job ≡ 0 → ⊥) → MadeAs (ran_by plan t) (answered_as r) (search_tables es t.paths t.plain t.undetected us)
+    pub as-collected : (r : Answered) → r ≡ A.Row (row n 0 0 0) → (only_events plan.job ≡ 0 → ⊥) → MadeAs plan t (answered_as r) (search_tables es t.paths t.plain t.undetected us)
     as-collected r e some =
         let is = is_collect plan.job some in
         made_as _ _ (only-collected plan.shorter longer o t es [] [] us n 0 events-left zeros r e
@@ -335,7 +334,7 @@ module _ (plan : Plan) (t : SearchTables) where
 
     pub as-done : (ls ms : List ℕ) (at : ℕ) → AllPaths o t.paths ls t.plain ms at → AllFit (length t.paths) others → (few : ℕ) → few ≡ length (events o) → only_events plan.job ≡ 0
         → (a : JobAsks plan.job plan.shorter o t.plain t.undetected) (noted : Noted) → Ranked o (shorter_in (listed_before plan.job plan.shorter)) noted.firsts
-        → (r : Answered) (after : List ℕ) → Finished plan.job o.m (o.d - 1) noted few at ls ms t.undetected after r → MadeAs (ran_by plan t) (answered_as r) (search_tables es ls ms after us)
+        → (r : Answered) (after : List ℕ) → Finished plan.job o.m (o.d - 1) noted few at ls ms t.undetected after r → MadeAs plan t (answered_as r) (search_tables es ls ms after us)
     unfolding AllFit
     as-done ls ms at paths-left others-fit few is-few z a noted ranked r after f =
         made_as _ _ (is-done plan.shorter longer o t es ls ms us n at events-left zeros paths-left few is-few plan.job a noted ranked z r after f

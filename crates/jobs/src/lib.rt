@@ -5,7 +5,7 @@ ghost use Rattle.order.specs.Answers.{order_in};
 ghost use Rattle.row.specs.Answered.{answered_as};
 ghost use Rattle.choice.specs.Model.Steps.{offered_by, Chose, ToChoose};
 ghost use Rattle.jobs.specs.Jobs.{search_tables};
-ghost use Rattle.jobs.specs.Model.Steps.{only_events, row_order, listed_before, ran_by, LeftBy, Finished, ToFinish, ToMake, MadeAs};
+ghost use Rattle.jobs.specs.Model.Steps.{only_events, row_order, listed_before, LeftBy, Finished, ToFinish, ToMake, MadeAs};
 ghost use Rattle.narrowing.specs.Model.Firsts.{ToAdd};
 
 use choice::{Outcome, choose, only};
@@ -32,7 +32,7 @@ pub enum Job {
 }
 
 // A call: events are collected for the order, of which it takes so much; the row is for words of `bits` bits; the job says how far it goes, and may be for
-// shorter lengths too; and the walks that it is charged by may be so many.
+// shorter lengths too.
 #[derive(Drop)]
 pub struct Plan {
     pub order: OrderRecord,
@@ -40,11 +40,10 @@ pub struct Plan {
     pub bits: u64,
     pub shorter: Shorter,
     pub job: Job,
-    pub limit: u64,
 }
 
 // The order that events are collected for.
-pub fn collected_for(plan: Plan) -> OrderRecord
+fn collected_for(plan: Plan) -> OrderRecord
     ensures { result ≡ plan.order }
 {
     plan.order
@@ -169,7 +168,7 @@ fn finish(
 
 // ---- the walk
 
-// What a plan says, for accepted orders and whatever its limit. Where it is refused, with 13 or 14, nothing is said of the tables.
+// What a plan says, for accepted orders. Where it is refused, with 13 or 14, nothing is said of the tables.
 pub fn make(
     plan: Plan,
     events: &mut [Event],
@@ -179,7 +178,7 @@ pub fn make(
     work: &mut [u64],
 ) -> Answered
     requires { ToMake plan plain.old undetected.old work.old }
-    ensures { MadeAs (ran_by plan (search_tables events.old paths.old plain.old undetected.old work.old)) (answered_as result) (search_tables events.new paths.new plain.new undetected.new work.new) }
+    ensures { MadeAs plan (search_tables events.old paths.old plain.old undetected.old work.old) (answered_as result) (search_tables events.new paths.new plain.new undetected.new work.new) }
 {
     let longer = collected_for(plan);
     let n = gather(longer, events, work);

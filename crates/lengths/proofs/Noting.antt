@@ -8,7 +8,7 @@ use mathlib.Core.List.{List, [], ◌∷◌, map}
 use lib.ListN.{length, get_or, replicate}
 use native.Mathlib.Decide.{ℕ_discrete}
 use Rattle.lists.specs.Lists.{up_from, cleared}
-use Rattle.lists.proofs.Lengths.{length-map-up_from, cleared_as}
+use Rattle.lists.proofs.Lengths.{length-map-up_from}
 use Rattle.order.specs.Order.{Order, with_length}
 use Rattle.events.specs.declared.Event.{Event}
 use Rattle.paths.specs.Paths.{paths, path_room}
@@ -20,6 +20,10 @@ use Rattle.lengths.specs.declared.Noted.{Noted}
 use Rattle.lengths.specs.Shorter.{for_each, length_at, shorter_in}
 use Rattle.lengths.specs.Model.Noted.{AllFit, OneTooMany, ToListNext, ListedNext, ToListShorter, ListedShorter}
 use Rattle.lengths.proofs.Listed.{divided-left}
+
+cleared_as : (l m : List ℕ) → length l ≡ length m → cleared 0 l ≡ cleared 0 m
+unfolding cleared
+cleared_as l m e = ap (λ (n : ℕ). replicate n 0) e
 
 module _ (o : Order) (s : Shorter) (es : List Event) (n : ℕ) (table plain work : List ℕ) (asked : ToListShorter o s es n plain work) where
   abbrev np : ℕ
@@ -83,7 +87,7 @@ module _ (o : Order) (s : Shorter) (es : List Event) (n : ℕ) (table plain work
           all = f.all;
           counts = rw stands.same_ms f.counts;
           wide = rw stands.same-us f.wide;
-          zeros = stands.zeros ∙ cleared_as 0 work us (sym stands.same-us);
+          zeros = stands.zeros ∙ cleared_as work us (sym stands.same-us);
         }
 
     pub to-next : (q : Order) → q ≡ o' → ToListNext q x es n ms us
@@ -122,7 +126,7 @@ module _ (o : Order) (s : Shorter) (es : List Event) (n : ℕ) (table plain work
           within = omega arith;
           past = λ nz. subst (λ (Ns : List ℕ). OneTooMany np (for_each Ns o)) (last_more k more) (one_more listed nz);
           inside = λ z. let h = all_more listed z in (subst (λ (Ns : List ℕ). AllFit np (for_each Ns o)) (last_more k more) h.0, subst (λ (Ns : List ℕ). Ranked o Ns r.firsts) (last_more k more) h.1);
-          zeros = listed.zeros ∙ cleared_as 0 us work stands.same-us;
+          zeros = listed.zeros ∙ cleared_as us work stands.same-us;
           same-ls = kl;
           same_ms = km;
           same-us = ku;

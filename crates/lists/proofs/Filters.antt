@@ -48,11 +48,10 @@ module _ {A : Type 0} (f : A → Bool) where
   unfolding filter
   filter-one x b e = ap (λ (c : Bool). cond c (x ∷ []) []) e
 
-  pub filter-all : (xs : List A) → ((x : A) → Memᴰ x xs → f x ≡ true) → filter f xs ≡ xs
+  pub filter-all : (xs : List A) → ((x : A) → f x ≡ true) → filter f xs ≡ xs
   unfolding filter
-  filter-all [] pass = refl
-  filter-all (x ∷ xs) pass =
-      ap₂ (λ (b : Bool) (rest : List A). cond b (x ∷ rest) rest) (pass x (Memᴰ.head refl)) (filter-all xs (λ y m. pass y (Memᴰ.tail m)))
+  filter-all [] each = refl
+  filter-all (x ∷ xs) each = ap₂ (λ (b : Bool) (rest : List A). cond b (x ∷ rest) rest) (each x) (filter-all xs each)
 
   pub filter-filter : (g : A → Bool) (xs : List A) → filter f (filter g xs) ≡ filter (λ x. g x && f x) xs
   unfolding filter

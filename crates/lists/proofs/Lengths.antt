@@ -9,7 +9,7 @@ use mathlib.Core.List.{List, [], ◌∷◌, ◌++◌, map, flat_map}
 use lib.Dec.{T}
 use lib.ListN.{length, get_or, take, replicate, get_or-append, get_or-replicate, length-append, length-map, length-replicate}
 use lib.Seq.{get_or-append-add, ext_get_or}
-use Rattle.lists.specs.Lists.{up_from, filter, sum, padded, cleared}
+use Rattle.lists.specs.Lists.{up_from, filter, sum, padded}
 
 -- the numbers of a list, added up
 unfoldable pub total : List ℕ → ℕ
@@ -157,8 +157,3 @@ block_at {A} z xs ys zs =
     ext_get_or z (map at (up_from (length xs) (length ys))) ys n
     (λ i h. let g : i < length ys = omega arith in
     get_or-map-up_from at (length xs) (length ys) i z g ∙ get_or-append-add xs (ys ++ zs) i z ∙ get_or-append ys zs z i g)
-
--- lists of one length are cleared alike
-pub cleared_as : {A : Type 0} (z : A) (l m : List A) → length l ≡ length m → cleared z l ≡ cleared z m
-unfolding cleared
-cleared_as z l m e = ap (λ (n : ℕ). replicate n z) e

@@ -1,10 +1,9 @@
--- What a test made of tests says: `&&` is both, `||` one of the two, `not` the failure; and every test passes or fails. And half of what fits 64 bits fits them.
+-- What a test made of tests says: `&&` is both, `||` one of the two, `not` the failure; and every test passes or fails.
 -- Assumes nothing.
 use mathlib.Core.Path.{◌≡◌, refl, sym, ap, subst}
 use mathlib.Core.Bool.{Bool, true, false, not, ◌&&◌, ◌||◌}
 use mathlib.Core.Logic.{◌↔◌, ◌⊎◌, inl, inr, ⊎_elim}
-use Prim.Native.Nat.{ℕ, ◌/◌, ◌^◌, ◌≤◌, ◌<◌}
-use native.Mathlib.Omega.{arith}
+use Prim.Native.Nat.{ℕ, ◌≤◌, ◌<◌}
 use lib.Dec.{T, ltb, ltb→lt, nltb→le}
 
 pub T_and : (a b : Bool) → T (a && b) ↔ (T a × T b)
@@ -51,6 +50,3 @@ same_test true true f g = refl
 same_test true false f g = absurd (f tt)
 same_test false true f g = absurd (g tt)
 same_test false false f g = refl
-
-pub half : (n : ℕ) → n < 2 ^ 64 → n / 2 < 2 ^ 64
-half n h = omega arith

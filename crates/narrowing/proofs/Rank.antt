@@ -81,7 +81,7 @@ module _ (high low : ℕ → ℕ) (B : ℕ) (small : (p : ℕ) → low p < B) (p
 -- where all values are the same, everybody stays
 largest_level : (x : ℕ) (ps : List ℕ) → largest (λ p. x) ps ≡ ps
 unfolding largest
-largest_level x ps = filter-all (λ p. all (λ q. leb x x) ps) ps (λ p _. true_of_T _ (in_top (λ q. x) ps p (λ q m. omega arith)))
+largest_level x ps = filter-all (λ p. all (λ q. leb x x) ps) ps (λ p. true_of_T _ (in_top (λ q. x) ps p (λ q m. omega arith)))
 
 -- ---- ranks
 

@@ -135,29 +135,14 @@ none_in_parts (q ∷ qs) rest n e =
     let later = none_in_parts qs rest numbers.1 here.1 in
     (first_no_yes q qs here.0 ∙ later.0, later.1)
 
--- ---- a number that no question has, and the last question of a list
+-- ---- the last question of a list
 
 -- no question has the number k: `tt`, for a list that is written out
 abbrev pub has_not : ℕ → List Question → Bool
 has_not k [] = true
 has_not k (q ∷ qs) = not (eqb q.0 k) && has_not k qs
 
-pub has_not_++ : (k : ℕ) (qs rest : List Question) → T (has_not k qs) → T (has_not k rest) → T (has_not k (qs ++ rest))
-has_not_++ k [] rest t u = u
-has_not_++ k (q ∷ qs) rest t u =
-    let other = (T_and (not (eqb q.0 k)) (has_not k qs)).0 t in
-    (T_and (not (eqb q.0 k)) (has_not k (qs ++ rest))).1 (other.0, has_not_++ k qs rest other.1 u)
-
-pub never_refuses : (k : ℕ) (qs : List Question) → T (ltb 0 k) → T (has_not k qs) → first_no qs ≡ k → ⊥
-unfolding first_no
-never_refuses k [] nk t e = not_zero k nk (sym e)
-never_refuses k (q ∷ qs) nk t e = let other = (T_and (not (eqb q.0 k)) (has_not k qs)).0 t in by other.0 (never_refuses k qs nk other.1) q.1 e
-  where
-    by : T (not (eqb q.0 k)) → (first_no qs ≡ k → ⊥) → (y : Bool) → cond y (first_no qs) q.0 ≡ k → ⊥
-    by other later true e' = later e'
-    by other later false e' = T_not (eqb q.0 k) other (eqb_passes q.0 k e')
-
--- the last refuses exactly where none before it does, and it says no
+-- it refuses exactly where none before it does, and it says no
 pub last_refuses : (k : ℕ) (b : Bool) (qs : List Question) → T (ltb 0 k) → Numbered qs → T (has_not k qs)
     → (first_no (qs ++ ((k, b) ∷ [])) ≡ k) ↔ ((first_no qs ≡ 0) × (b ≡ false))
 unfolding first_no

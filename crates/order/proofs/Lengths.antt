@@ -17,10 +17,10 @@ pub no_longer_with : (o : Order) (N : ℕ) → N ≤ o.N → NoLonger (with_leng
 unfolding with_length
 no_longer_with o N h = record { same = refl; at_most = h }
 
--- an order that is accepted for words of M bits is so for words of N bits, from v up to the longest
-pub accepted_with : (o : Order) (M N : ℕ) → o.v ≤ N → N ≤ longest_word → Accepted (with_length M o) → Accepted (with_length N o)
+-- an accepted order is accepted for longer words too, up to the longest
+pub accepted_longer : (o : Order) (N : ℕ) → N ≤ o.N → o.N ≤ longest_word → Accepted (with_length N o) → Accepted o
 unfolding with_length
-accepted_with o M N low most a = record {
+accepted_longer o N h most a = record {
   code = record {
     some_version = a.code.some_version;
     known_version = a.code.known_version;
@@ -28,7 +28,7 @@ accepted_with o M N low most a = record {
     few_generators = a.code.few_generators;
     some_memory = a.code.some_memory;
     small_memory = a.code.small_memory;
-    long_enough = low;
+    long_enough = le_trans a.code.long_enough h;
     at_most_128 = most;
     is_in_range = a.code.is_in_range;
     one_has_bit_v = a.code.one_has_bit_v;
@@ -37,8 +37,3 @@ accepted_with o M N low most a = record {
   };
   threshold = record { some_weight = a.threshold.some_weight; at_most_64 = a.threshold.at_most_64 };
 }
-
--- and so for longer words too
-pub accepted_longer : (o : Order) (N : ℕ) → N ≤ o.N → o.N ≤ longest_word → Accepted (with_length N o) → Accepted o
-unfolding with_length
-accepted_longer o N h most a = accepted_with o N o.N (le_trans a.code.long_enough h) most a

@@ -82,5 +82,5 @@ module _ (o : Order) (N' : ℕ) where
         let fits = quoted-fits (le_trans shape.some_memory shape.long_enough) shape.at_most in
         record { tail_biting = omega arith; at_most_128 = fits.1; no_longer = fits.0 }
 
-  pub quote-sound : (limit : ℕ) → Sound (quoting o N' limit)
-  quote-sound limit = record { known_versions = omega arith; at_most_longest = longest-known; no_longer = quoted-fits; threshold = refl; degree = refl }
+  pub quote-sound : Sound (quoting o N')
+  quote-sound = record { known_versions = omega arith; at_most_longest = longest-known; no_longer = quoted-fits; threshold = refl; degree = refl }

@@ -1,6 +1,6 @@
 -- What quoting a shorter length answers and leaves (document 02, C-13: collect long, quote short): events are collected for words of N bits, the length of
 -- the order, and the row is the one for words of N' bits, at most N. For every order, every N' and whatever tables are lent.
--- Question 5 is asked of both lengths, 18 and 13 of N, 14 of N'; else they are those of the search for N', but that 2 wants a tail_biting link.
+-- Question 5 is asked of both lengths, 13 of N, 14 of N'; else they are those of the search for N', but that 2 wants a tail_biting link.
 -- Assumes nothing.
 use Rattle.std.specs.Prelude.{ℕ, true, cond, List, [], leb}
 use Rattle.order.specs.Questions.{Question, longest_word}
@@ -21,11 +21,11 @@ abbrev pub quotable : ℕ → Takes
 quotable N = record { versions = 1; longest = longest_quoted N; degree = true; threshold = true }
 
 -- the row for N', its events collected for N
-abbrev pub quoting : Order → (N' limit : ℕ) → Call
-quoting o N' limit = record { order = o; takes = quotable o.N; N = N'; shorter = []; job = J.Choose; limit = limit }
+abbrev pub quoting : Order → ℕ → Call
+quoting o N' = record { order = o; takes = quotable o.N; N = N'; shorter = []; job = J.Choose }
 
 unfoldable pub quote_questions : Order → (N' plain undetected work : ℕ) → List Question
-quote_questions o N' plain undetected work = questions (quoting o N' 0) plain undetected work
+quote_questions o N' plain undetected work = questions (quoting o N') plain undetected work
 
-unfoldable pub quote_call : Order → (N' limit : ℕ) → SearchTables → Answer Row × SearchTables
-quote_call o N' limit t = call (quoting o N' limit) t
+unfoldable pub quote_call : Order → ℕ → SearchTables → Answer Row × SearchTables
+quote_call o N' t = call (quoting o N') t

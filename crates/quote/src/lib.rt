@@ -26,8 +26,8 @@ fn longest_quoted(bits: u64) -> u64
 }
 
 // The plan: tail_biting links, lengths up to the order's own, and everything.
-fn quoting(order: OrderRecord, bits: u64, limit: u64) -> Plan
-    ensures { result ≡ record { order = order; takes = quotable order.bits; bits = bits; shorter = none_shorter; job = Job.Choose; limit = limit } }
+fn quoting(order: OrderRecord, bits: u64) -> Plan
+    ensures { result ≡ record { order = order; takes = quotable order.bits; bits = bits; shorter = none_shorter; job = Job.Choose } }
 {
     Plan {
         order,
@@ -40,25 +40,23 @@ fn quoting(order: OrderRecord, bits: u64, limit: u64) -> Plan
         bits,
         shorter: NONE_SHORTER,
         job: Job::Choose,
-        limit,
     }
 }
 
 // The row for words of `bits` bits, at most as long as the order's, from the events of the order: those are left as the event table, and the other tables
-// as the search for the shorter words leaves them. The walks are those of the order's own length, as the limit is about them. Refused with 18 or 13, which are
-// about that length, or with 14, about the shorter one, all that is lent is zero; refused with an earlier number, nothing is changed.
+// as the search for the shorter words leaves them. Refused with 13, which is about the order's own length, or with 14, about the shorter one, all that is
+// lent is zero; refused with an earlier number, nothing is changed.
 pub fn quote(
     order: OrderRecord,
     bits: u64,
-    limit: u64,
     events: &mut [Event],
     paths: &mut [u64],
     plain: &mut [u64],
     undetected: &mut [u64],
     work: &mut [u64],
 ) -> Answered
-    ensures { (answered_as result, search_tables events.new paths.new plain.new undetected.new work.new) ≡ quote_call (order_in order) bits limit (search_tables events.old paths.old plain.old undetected.old work.old) }
+    ensures { (answered_as result, search_tables events.new paths.new plain.new undetected.new work.new) ≡ quote_call (order_in order) bits (search_tables events.old paths.old plain.old undetected.old work.old) }
 {
-    let plan = quoting(order, bits, limit);
+    let plan = quoting(order, bits);
     call(plan, events, paths, plain, undetected, work)
 }

@@ -123,10 +123,10 @@ pub turned_lt : (N r c u : ℕ) → u ≡ rotate N r c → u < 2 ^ N
 turned_lt N r c u e = subst (λ (x : ℕ). x < 2 ^ N) (sym e) (rotate_lt N r c)
 
 -- the table and the place after one word more
-pub length-after : (u : ℕ) (t t' : List ℕ) (at at' : ℕ) → (t', at') ≡ put u (t, at) → length t' ≡ length t
-length-after u t t' at at' e = ap (λ (s : List ℕ × ℕ). length s.0) e ∙ length-put u (t, at)
+pub length_after : (u : ℕ) (t t' : List ℕ) (at at' : ℕ) → (t', at') ≡ put u (t, at) → length t' ≡ length t
+length_after u t t' at at' e = ap (λ (s : List ℕ × ℕ). length s.0) e ∙ length-put u (t, at)
 
 pub place_after : (u : ℕ) (t t' : List ℕ) (at at' : ℕ) → (t', at') ≡ put u (t, at) → at' ≤ path_room (length t') + 1
 place_after u t t' at at' e =
-    subst (λ (n : ℕ). at' ≤ path_room n + 1) (sym (length-after u t t' at at' e))
+    subst (λ (n : ℕ). at' ≤ path_room n + 1) (sym (length_after u t t' at at' e))
     (subst (λ (s : List ℕ × ℕ). s.1 ≤ path_room (length t) + 1) (sym e) (put-place u (t, at)))

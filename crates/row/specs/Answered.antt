@@ -6,14 +6,8 @@ use Rattle.row.specs.declared.Row.{Row}
 use Rattle.row.specs.declared.Answered.{Answered}
 use Rattle.row.specs.declared.Answered.TheVariants as A
 
--- a row before its walks are told
 abbrev pub row : (events paths polynomial shared : ℕ) → Row
-row e k p s = record { events = e; paths = k; polynomial = p; shared = s; walks = 0 }
-
--- the same answer with the walks that the call is charged by (document 02, C-18); a refusal tells none
-unfoldable pub with_walks : ℕ → Answer Row → Answer Row
-with_walks w (accepted r) = accepted (record { events = r.events; paths = r.paths; polynomial = r.polynomial; shared = r.shared; walks = w })
-with_walks w (refused k) = refused k
+row e k p s = record { events = e; paths = k; polynomial = p; shared = s }
 
 abbrev pub answered_as : Answered → Answer Row
 answered_as (A.Row r) = accepted r

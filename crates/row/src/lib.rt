@@ -1,10 +1,9 @@
 // What a call over lent tables answers: the numbers of a row, or a refusal.
 // The functions here are for the crates above; docs/DECISIONS.md lists them as internal.
 ghost use Rattle.std.specs.Prelude.{◌≡◌};
-ghost use Rattle.row.specs.Answered.{row, with_walks, answered_as, refusal_of};
+ghost use Rattle.row.specs.Answered.{refusal_of};
 
-// How many events and paths there are, the check polynomial, how many share its counts, it among them, and by how many walks the call is charged. 0 for what
-// a call does not tell.
+// How many events and paths there are, the check polynomial, and how many share its counts, it among them. 0 for what a call does not tell.
 #[repr(C)]
 #[derive(Drop)]
 pub struct Row {
@@ -12,7 +11,6 @@ pub struct Row {
     pub paths: u64,
     pub polynomial: u64,
     pub shared: u64,
-    pub walks: u64,
 }
 
 // A row's numbers, or the number of the question that says no.
@@ -23,31 +21,14 @@ pub enum Answered {
 }
 
 pub fn answer(events: usize, paths: usize, polynomial: u64, shared: u64) -> Answered
-    ensures { result ≡ Answered.Row (row events paths polynomial shared) }
+    ensures { result ≡ Answered.Row record { events = events; paths = paths; polynomial = polynomial; shared = shared } }
 {
     Answered::Row(Row {
         events: events as u64,
         paths: paths as u64,
         polynomial,
         shared,
-        walks: 0,
     })
-}
-
-// The same answer with the walks told.
-pub fn with_walks(a: Answered, walks: u64) -> Answered
-    ensures { answered_as result ≡ with_walks walks (answered_as a) }
-{
-    match a {
-        Answered::Row(row) => Answered::Row(Row {
-            events: row.events,
-            paths: row.paths,
-            polynomial: row.polynomial,
-            shared: row.shared,
-            walks,
-        }),
-        Answered::Refused(number) => Answered::Refused(number),
-    }
 }
 
 pub fn refuse(number: u64) -> Answered

@@ -3,7 +3,7 @@
 -- counts has a smaller number, and exactly so many have them; the undetected list is p's counts below the threshold; and of every candidate each count is the
 -- number of the words of its weight that it divides, with none of weight 0. It accepts exactly when no question refuses. `search_promises` says it of the function's own answer.
 -- Assumes nothing.
-use Prim.Native.Nat.{ℕ, ◌≤◌}
+use Prim.Native.Nat.{ℕ}
 use mathlib.Core.Path.{◌≡◌, sym, ap, ◌∙◌, subst}
 use mathlib.Core.Logic.{◌↔◌, ◌⊎◌, inl, inr, ⊎_elim}
 use mathlib.Core.List.{[], ◌∷◌}
@@ -27,20 +27,18 @@ use Rattle.choice.proofs.ByWeight.{none-undetected}
 use Rattle.choice.proofs.Chosen.{choice-first-best, choice_counts}
 use Rattle.row.specs.declared.Row.{Row}
 use Rattle.row.specs.declared.Answered.{Answered}
-use Rattle.row.specs.Answered.{with_walks, answered_as}
-use Rattle.limit.specs.Walks.{walk_count}
+use Rattle.row.specs.Answered.{row, answered_as}
 use Rattle.jobs.specs.Jobs.{SearchTables, filled_search, chosen, rows_of, made, ran}
-use Rattle.calls.specs.Calls.{questions, runs, call}
-use Rattle.calls.proofs.Outcomes.{Outcome, charged_by, whole-accepts, whole-either}
+use Rattle.calls.specs.Calls.{questions, call}
+use Rattle.calls.proofs.Outcomes.{Outcome, whole-accepts, whole-either}
 use Rattle.search.specs.Calls.{search_questions, search_call}
 use Rattle.search.specs.Promise.{NoneRefuses, NamesBest, Promise}
-use Rattle.search.proofs.Limits.{search-larger}
 
 pub accepted_same : {f g : Row} → ◌≡◌ {A = Answer Row} (accepted f) (accepted g) → f ≡ g
 accepted_same e = cc
 
-module _ (o : Order) (limit : ℕ) (t : SearchTables) where
-  -- the number of the first question before 18 that says no
+module _ (o : Order) (t : SearchTables) where
+  -- the number of the first question before 13 that says no
   abbrev why : ℕ
   why = first_no (search_questions o (length t.plain) (length t.undetected) (length t.work))
 
@@ -49,42 +47,42 @@ module _ (o : Order) (limit : ℕ) (t : SearchTables) where
 
   -- ---- refused, or chosen
 
-  accepts : NoneRefuses o limit t → search_call o limit t ≡ charged_by (walk_count o) best
-  unfolding search_call search_questions call runs ran rows_of made AllFit with_length questions
-  accepts n = whole-accepts why o (o ∷ []) t best limit (record { questions = n.questions; walks_fit = n.walks_fit; events_fit = n.events_fit; paths_fit = (n.paths_fit, tt) })
+  accepts : NoneRefuses o t → search_call o t ≡ best
+  unfolding search_call search_questions call ran rows_of made AllFit with_length
+  accepts n = whole-accepts why o (o ∷ []) t best (record { questions = n.questions; events_fit = n.events_fit; paths_fit = (n.paths_fit, tt) })
 
-  either : NoneRefuses o limit t ⊎ ((r : ℕ) × ((search_call o limit t).0 ≡ refused r))
-  unfolding search_call search_questions call runs ran rows_of made AllFit with_length questions
-  either = ⊎_elim (λ n. inl (record { questions = n.questions; walks_fit = n.walks_fit; events_fit = n.events_fit; paths_fit = n.paths_fit.0 })) inr (whole-either why o (o ∷ []) t best limit)
+  either : NoneRefuses o t ⊎ ((r : ℕ) × ((search_call o t).0 ≡ refused r))
+  unfolding search_call search_questions call ran rows_of made AllFit with_length
+  either = ⊎_elim (λ n. inl (record { questions = n.questions; events_fit = n.events_fit; paths_fit = n.paths_fit.0 })) inr (whole-either why o (o ∷ []) t best)
 
   -- ---- accepted
 
-  whole : NoneRefuses o limit t → AcceptedWhole o
+  whole : NoneRefuses o t → AcceptedWhole o
   unfolding search_questions questions with_length
   whole n = accepted_whole o (none_in_parts _ _ (numbered-order everything o) n.questions).0
 
-  code : NoneRefuses o limit t → AcceptedCode o
+  code : NoneRefuses o t → AcceptedCode o
   code n = (whole n).order.code
 
   -- what is told where no question refuses
   abbrev told : Row
-  told = record { events = length (events o); paths = length (paths o); polynomial = (choice o).polynomial; shared = (choice o).shared; walks = walk_count o }
+  told = row (length (events o)) (length (paths o)) (choice o).polynomial (choice o).shared
 
-  is-accepted : NoneRefuses o limit t → (search_call o limit t).0 ≡ accepted told
-  unfolding chosen with_walks
+  is-accepted : NoneRefuses o t → (search_call o t).0 ≡ accepted told
+  unfolding chosen
   is-accepted n = ap (λ (x : Outcome). x.0) (accepts n)
 
-  accepts-told : (f : Row) → (search_call o limit t).0 ≡ accepted f → NoneRefuses o limit t
+  accepts-told : (f : Row) → (search_call o t).0 ≡ accepted f → NoneRefuses o t
   accepts-told f same = ⊎_elim (λ n. n) (λ r. absurd (refused_not_accepted r.0 f (sym r.1 ∙ same))) either
 
-  accepts_exactly : ((f : Row) × ((search_call o limit t).0 ≡ accepted f)) ↔ NoneRefuses o limit t
+  accepts_exactly : ((f : Row) × ((search_call o t).0 ≡ accepted f)) ↔ NoneRefuses o t
   accepts_exactly = (λ h. accepts-told h.0 h.1, λ n. (told, is-accepted n))
 
-  counts-left : NoneRefuses o limit t → (search_call o limit t).1.undetected ≡ padded (length t.undetected) 0 (undetected_counts o (choice o).polynomial)
+  counts-left : NoneRefuses o t → (search_call o t).1.undetected ≡ padded (length t.undetected) 0 (undetected_counts o (choice o).polynomial)
   unfolding chosen filled_search
   counts-left n = ap (λ (x : Outcome). x.1.undetected) (accepts n) ∙ ap (padded (length t.undetected) 0) (choice_counts o)
 
-  names-choice : NoneRefuses o limit t → NamesBest o t (search_call o limit t).1 (choice o).polynomial (choice o).shared
+  names-choice : NoneRefuses o t → NamesBest o t (search_call o t).1 (choice o).polynomial (choice o).shared
   names-choice n =
       record {
         best = choice-first-best o (whole n).degree.some_degree;
@@ -93,27 +91,15 @@ module _ (o : Order) (limit : ℕ) (t : SearchTables) where
         none_of_weight_0 = λ q c. subst (CountsUndetected o q 0) (none-undetected o (code n) q) (undetected-means-divided o q 0 c.0);
       }
 
-  names_best : (f : Row) → (search_call o limit t).0 ≡ accepted f → NamesBest o t (search_call o limit t).1 f.polynomial f.shared
+  names_best : (f : Row) → (search_call o t).0 ≡ accepted f → NamesBest o t (search_call o t).1 f.polynomial f.shared
   names_best f same =
       let n = accepts-told f same in
       let is : told ≡ f = accepted_same (sym (is-accepted n) ∙ same) in
-      subst (λ (x : Row). NamesBest o t (search_call o limit t).1 x.polynomial x.shared) is (names-choice n)
+      subst (λ (x : Row). NamesBest o t (search_call o t).1 x.polynomial x.shared) is (names-choice n)
 
-  tells_walks : (f : Row) → (search_call o limit t).0 ≡ accepted f → f.walks ≡ walk_count o
-  tells_walks f same = sym (ap (λ (x : Row). x.walks) (accepted_same (sym (is-accepted (accepts-told f same)) ∙ same)))
-
-  larger : (f : Row) → (search_call o limit t).0 ≡ accepted f → (limit' : ℕ) → limit ≤ limit' → search_call o limit' t ≡ search_call o limit t
-  larger f same limit' h = search-larger o limit t limit' h (λ e. refused_not_accepted 18 f (sym e ∙ same))
-
-pub demand_3 : (o : Order) (limit : ℕ) (lent : SearchTables) → Promise o limit lent (search_call o limit lent).0 (search_call o limit lent).1
-demand_3 o limit t = record {
-  names_best = names_best o limit t;
-  accepts_exactly = accepts_exactly o limit t;
-  tells_walks = tells_walks o limit t;
-  larger_limit = larger o limit t;
-}
+pub demand_3 : (o : Order) (lent : SearchTables) → Promise o lent (search_call o lent).0 (search_call o lent).1
+demand_3 o t = record { names_best = names_best o t; accepts_exactly = accepts_exactly o t }
 
 -- of what `search` answers and leaves: its contract is the premise
-pub search_promises : (order : OrderRecord) (limit : ℕ) (lent left : SearchTables) (r : Answered) → (answered_as r, left) ≡ search_call (order_in order) limit lent
-    → Promise (order_in order) limit lent (answered_as r) left
-search_promises order limit lent left r e = subst (λ (x : Answer Row × SearchTables). Promise (order_in order) limit lent x.0 x.1) (sym e) (demand_3 (order_in order) limit lent)
+pub search_promises : (order : OrderRecord) (lent left : SearchTables) (r : Answered) → (answered_as r, left) ≡ search_call (order_in order) lent → Promise (order_in order) lent (answered_as r) left
+search_promises order lent left r e = subst (λ (x : Answer Row × SearchTables). Promise (order_in order) lent x.0 x.1) (sym e) (demand_3 (order_in order) lent)

@@ -1,6 +1,6 @@
 -- The plans for an order's own length tell calls of that length, which are sound; and what the listing and the collection are lent.
 -- Assumes nothing.
-use Prim.Native.Nat.{ℕ, ◌≤◌}
+use Prim.Native.Nat.{◌≤◌}
 use native.Mathlib.Nat.{le_refl, le_trans}
 use mathlib.Core.Path.{◌≡◌, sym, ◌∙◌, ap, subst}
 use mathlib.Core.Bool.{true}
@@ -27,16 +27,16 @@ path_table_kinds = lent T.the_row ∷ lent u64 ∷ lent u64 ∷ lent u64 ∷ []
 abbrev pub event_table_kinds : List Kind
 event_table_kinds = lent T.the_row ∷ lent u64 ∷ []
 
-abbrev pub own_plan : Takes → Job → OrderRecord → (limit : ℕ) → Plan
-own_plan takes job order limit = record { order = order; takes = takes; bits = order.bits; shorter = none_shorter; job = job; limit = limit }
+abbrev pub own_plan : Takes → Job → OrderRecord → Plan
+own_plan takes job order = record { order = order; takes = takes; bits = order.bits; shorter = none_shorter; job = job }
 
-module _ (takes : Takes) (job : Job) (order : OrderRecord) (limit : ℕ) (plan : Plan) (is : plan ≡ own_plan takes job order limit) where
-  pub own-call : call_in plan ≡ of_own_length takes job (order_in order) limit
+module _ (takes : Takes) (job : Job) (order : OrderRecord) (plan : Plan) (is : plan ≡ own_plan takes job order) where
+  pub own-call : call_in plan ≡ of_own_length takes job (order_in order)
   unfolding order_in shorter_in up_from
   own-call = ap call_in is
 
   -- what is seen of the call that the plan tells is what is seen of one for the order's own length
-  pub own-told : {X : Type 0} (see : Answer Row × SearchTables → X) (t : SearchTables) {x : Answer Row × SearchTables} → x ≡ call (call_in plan) t → see x ≡ see (call (of_own_length takes job (order_in order) limit) t)
+  pub own-told : {X : Type 0} (see : Answer Row × SearchTables → X) (t : SearchTables) {x : Answer Row × SearchTables} → x ≡ call (call_in plan) t → see x ≡ see (call (of_own_length takes job (order_in order)) t)
   own-told see t told = ap see (told ∙ ap (λ (c : Call). call c t) own-call)
 
   pub own-sound : takes.versions ≤ highest_version → takes.longest ≤ longest_word → takes.threshold ≡ true → DegreeFor job takes.degree → Sound (call_in plan)

@@ -28,28 +28,28 @@ abbrev pub event_tables : List Event → List ℕ → EventTables
 event_tables es us = record { events = es; work = us }
 
 -- the best check polynomial
-abbrev pub searching : Order → (limit : ℕ) → Call
-searching o limit = of_own_length everything J.Choose o limit
+abbrev pub searching : Order → Call
+searching o = of_own_length everything J.Choose o
 
--- its questions before 18, of how long the lists are; none is about the limit
+-- its questions before 13, of how long the lists are
 unfoldable pub search_questions : Order → (plain undetected work : ℕ) → List Question
-search_questions o plain undetected work = questions (searching o 0) plain undetected work
+search_questions o plain undetected work = questions (searching o) plain undetected work
 
-unfoldable pub search_call : Order → (limit : ℕ) → SearchTables → Answer Row × SearchTables
-search_call o limit t = call (searching o limit) t
+unfoldable pub search_call : Order → SearchTables → Answer Row × SearchTables
+search_call o t = call (searching o) t
 
 -- the undetected counts of one polynomial
-unfoldable pub count_call : Order → (p limit : ℕ) → SearchTables → Answer Row × SearchTables
-count_call o p limit t = call (of_own_length everything (J.Count p) o limit) t
+unfoldable pub count_call : Order → ℕ → SearchTables → Answer Row × SearchTables
+count_call o p t = call (of_own_length everything (J.Count p) o) t
 
 -- events and paths: no undetected list is lent
-unfoldable pub list_call : Order → (limit : ℕ) → PathTables → Answer Row × PathTables
-list_call o limit t =
-    let (answer, left) = call (of_own_length and_threshold J.List o limit) (search_tables t.events t.paths t.plain [] t.work) in
+unfoldable pub list_call : Order → PathTables → Answer Row × PathTables
+list_call o t =
+    let (answer, left) = call (of_own_length and_threshold J.List o) (search_tables t.events t.paths t.plain [] t.work) in
     (answer, path_tables left.events left.paths left.plain left.work)
 
 -- events alone
-unfoldable pub collect_call : Order → (limit : ℕ) → EventTables → Answer Row × EventTables
-collect_call o limit t =
-    let (answer, left) = call (of_own_length and_threshold J.Collect o limit) (search_tables t.events [] [] [] t.work) in
+unfoldable pub collect_call : Order → EventTables → Answer Row × EventTables
+collect_call o t =
+    let (answer, left) = call (of_own_length and_threshold J.Collect o) (search_tables t.events [] [] [] t.work) in
     (answer, event_tables left.events left.work)

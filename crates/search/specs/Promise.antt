@@ -1,5 +1,5 @@
--- What the search promises (demand 3), in the words of the contracts that buyers sign: of an order of either kind of link, a limit, what was lent, what is answered
--- and what is left. `demand_3` (proofs/Demand.antt) proves it of the definition of the call, and `search_promises` of what the function itself answers and leaves.
+-- What the search promises (demand 3), in the words of the contracts that buyers sign: of an order of either kind of link, what was lent, what is answered and
+-- what is left. `demand_3` (proofs/Demand.antt) proves it of the definition of the call, and `search_promises` of what the function itself answers and leaves.
 -- Assumes nothing.
 use Rattle.std.specs.Prelude.{ℕ, ◌≤◌, ◌<◌, ◌≡◌, ◌↔◌, length}
 use Rattle.lists.specs.Lists.{padded}
@@ -7,18 +7,16 @@ use Rattle.order.specs.Questions.{first_no}
 use Rattle.order.specs.Order.{Order, of_weight}
 use Rattle.order.specs.Answer.{Answer, accepted}
 use Rattle.events.specs.Events.{events}
-use Rattle.limit.specs.Walks.{walk_count}
 use Rattle.paths.specs.Paths.{paths, path_room}
 use Rattle.undetected.specs.Undetected.{undetected_counts, CountsUndetected}
 use Rattle.choice.specs.Best.{IsCandidate, BestOf}
 use Rattle.row.specs.declared.Row.{Row}
 use Rattle.jobs.specs.Jobs.{SearchTables}
-use Rattle.search.specs.Calls.{search_questions, search_call}
+use Rattle.search.specs.Calls.{search_questions}
 
 -- no question refuses
-pub record NoneRefuses (o : Order) (limit : ℕ) (lent : SearchTables) : Type 0 where
+pub record NoneRefuses (o : Order) (lent : SearchTables) : Type 0 where
   pub questions : first_no (search_questions o (length lent.plain) (length lent.undetected) (length lent.work)) ≡ 0
-  pub walks_fit : walk_count o ≤ limit
   pub events_fit : length (events o) ≤ length lent.events
   pub paths_fit : length (paths o) ≤ path_room (length lent.paths)
 
@@ -33,10 +31,6 @@ pub record NamesBest (o : Order) (lent left : SearchTables) (p shared : ℕ) : T
   -- and no nonzero word that it divides weighs 0
   pub none_of_weight_0 : (q : ℕ) → IsCandidate o.m q → CountsUndetected o q 0 0
 
-pub record Promise (o : Order) (limit : ℕ) (lent : SearchTables) (answer : Answer Row) (left : SearchTables) : Type 0 where
+pub record Promise (o : Order) (lent : SearchTables) (answer : Answer Row) (left : SearchTables) : Type 0 where
   pub names_best : (f : Row) → answer ≡ accepted f → NamesBest o lent left f.polynomial f.shared
-  pub accepts_exactly : ((f : Row) × (answer ≡ accepted f)) ↔ NoneRefuses o limit lent
-  -- the walks that are told are the order's
-  pub tells_walks : (f : Row) → answer ≡ accepted f → f.walks ≡ walk_count o
-  -- and a larger limit changes nothing of a row that was given
-  pub larger_limit : (f : Row) → answer ≡ accepted f → (limit' : ℕ) → limit ≤ limit' → search_call o limit' lent ≡ (answer, left)
+  pub accepts_exactly : ((f : Row) × (answer ≡ accepted f)) ↔ NoneRefuses o lent

@@ -2,46 +2,41 @@
 -- it): the named p is left after every length and first best of those left, accepted exactly when no question refuses, and a list of one length gives what the
 -- search gives (`one_length-call`). `set_promises` says it of the function's own answer.
 -- Assumes nothing.
-use Prim.Native.Nat.{ℕ, ◌-◌, ◌≤◌, ◌<◌}
+use Prim.Native.Nat.{ℕ, ◌≤◌}
 use mathlib.Core.Path.{◌≡◌, refl, sym, ap, ◌∙◌, subst}
 use mathlib.Core.Bool.{Bool, true, false, ◌&&◌}
-use mathlib.Core.Logic.{◌↔◌, ◌⊎◌, inl, inr, ⊎_elim}
+use mathlib.Core.Logic.{◌⊎◌, inl, inr, ⊎_elim}
 use mathlib.Core.List.Memᴰ
 use mathlib.Core.List.{List, [], ◌∷◌, Memᴰ}
-use lib.Dec.{T}
 use lib.ListN.{length}
 use Rattle.lists.specs.Lists.{all, padded}
 use Rattle.order.specs.Questions.{Question, first_no, from_to, shape_questions}
 use Rattle.order.specs.Order.{Order, with_length, everything, order_questions}
-use Rattle.order.specs.Answer.{Answer, accepted, refused, refusal_number, unless_refused}
+use Rattle.order.specs.Answer.{Answer, accepted, refused, unless_refused}
 use Rattle.order.specs.Answers.{order_in}
 use Rattle.order.specs.declared.record.OrderRecord.{OrderRecord}
 use Rattle.order.specs.Model.Accepted.{AcceptedWhole}
-use Rattle.order.proofs.FirstNo.{none_in_parts, refused_not_accepted, has_not, has_not_++, never_refuses}
+use Rattle.order.proofs.FirstNo.{none_in_parts, refused_not_accepted}
 use Rattle.order.proofs.Asked.{numbered-order, accepted_whole}
 use Rattle.row.specs.declared.Row.{Row}
 use Rattle.row.specs.declared.Answered.{Answered}
-use Rattle.row.specs.Answered.{with_walks, answered_as}
-use Rattle.limit.specs.Walks.{walk_count}
-use Rattle.limit.specs.Limit.{unless_passed}
+use Rattle.row.specs.Answered.{row, answered_as}
 use Rattle.events.specs.Events.{events}
 use Rattle.paths.specs.Paths.{paths, path_room}
 use Rattle.undetected.specs.Undetected.{undetected_counts, CountsUndetected}
 use Rattle.undetected.proofs.Undetected.{undetected-means-divided, undetected_of_weight}
 use Rattle.undetected.proofs.FirstUndetected.{first-weight}
-use Rattle.choice.specs.Choice.{first_of, choice_among}
+use Rattle.choice.specs.Choice.{choice_among}
 use Rattle.narrowing.specs.Narrowed.{longest, set_choice}
 use Rattle.narrowing.proofs.Narrowed.{set⇔best-of-set}
 use Rattle.lengths.specs.Model.Noted.{AllFit}
 use Rattle.lengths.specs.Shorter.{for_each}
-use Rattle.jobs.specs.declared.Job.TheVariants as J
-use Rattle.jobs.specs.Jobs.{SearchTables, cleared_search, filled_search, chosen}
-use Rattle.calls.specs.Calls.{job_questions, questions, runs, call}
-use Rattle.calls.proofs.Outcomes.{Outcome, charged_by, NoRefusal, whole-accepts, whole-either, whole-larger, eighteen-exactly}
-use Rattle.calls.proofs.Limits.{order_not_18}
+use Rattle.jobs.specs.Jobs.{SearchTables, filled_search, chosen}
+use Rattle.calls.specs.Calls.{questions, call}
+use Rattle.calls.proofs.Outcomes.{Outcome, NoRefusal, whole-accepts, whole-either}
 use Rattle.search.specs.Calls.{search_questions, search_call}
 use Rattle.search.proofs.Demand.{accepted_same}
-use Rattle.set.specs.Calls.{all_below, falling, shortest, kind_questions, length_questions, set_questions, set_row, set_runs, set_call}
+use Rattle.set.specs.Calls.{all_below, falling, shortest, kind_questions, length_questions, set_questions, set_row, set_call}
 use Rattle.set.specs.Promise.{NoneRefusesSet, NamesBestOfSet, SetPromise}
 use Rattle.set.proofs.Asked.{passed}
 use Rattle.set.proofs.Planned.{row_of_one}
@@ -75,15 +70,15 @@ asked_as_searched : (o : Order) (N plain undetected work : ℕ) → first_no (se
 unfolding set_questions kind_questions length_questions from_to shortest falling all_below all search_questions questions order_questions shape_questions with_length
 asked_as_searched o N plain undetected work = asked_twice _ _ _ _ _
 
-pub one_length-call : (o : Order) (N limit : ℕ) (t : SearchTables) → set_call o (N ∷ []) limit t ≡ search_call (with_length N o) limit t
-unfolding set_call set_runs search_call search_questions call runs questions longest first_of with_length
-one_length-call o N limit t =
-    ap (λ (k : ℕ). unless_refused k t (set_runs o (N ∷ []) limit t)) (asked_as_searched o N (length t.plain) (length t.undetected) (length t.work))
-    ∙ ap (λ (x : Outcome). unless_refused (first_no (search_questions (with_length N o) (length t.plain) (length t.undetected) (length t.work))) t (unless_passed (walk_count (with_length N o)) limit (cleared_search t) x)) (row_of_one o N [] t)
+pub one_length-call : (o : Order) (N : ℕ) (t : SearchTables) → set_call o (N ∷ []) t ≡ search_call (with_length N o) t
+unfolding set_call search_call search_questions call with_length
+one_length-call o N t =
+    ap (λ (k : ℕ). unless_refused k t (set_row o (N ∷ []) t)) (asked_as_searched o N (length t.plain) (length t.undetected) (length t.work))
+    ∙ ap (unless_refused (first_no (search_questions (with_length N o) (length t.plain) (length t.undetected) (length t.work))) t) (row_of_one o N [] t)
 
 -- ---- any list
 
-module _ (o : Order) (Ns : List ℕ) (limit : ℕ) (t : SearchTables) where
+module _ (o : Order) (Ns : List ℕ) (t : SearchTables) where
   abbrev l : Order
   l = longest o Ns
 
@@ -95,40 +90,40 @@ module _ (o : Order) (Ns : List ℕ) (limit : ℕ) (t : SearchTables) where
 
   -- what is told where no question refuses
   abbrev told : Row
-  told = record { events = length (events l); paths = length (paths l); polynomial = (set_choice o Ns).polynomial; shared = (set_choice o Ns).shared; walks = walk_count l }
+  told = row (length (events l)) (length (paths l)) (set_choice o Ns).polynomial (set_choice o Ns).shared
 
-  none-refuses : NoneRefusesSet o Ns limit t → NoRefusal why limit l (for_each Ns o) t
-  none-refuses n = record { questions = n.questions; walks_fit = n.walks_fit; events_fit = n.events_fit; paths_fit = all_fit_of (length t.paths) o Ns n.paths_fit }
+  none-refuses : NoneRefusesSet o Ns t → NoRefusal why l (for_each Ns o) t
+  none-refuses n = record { questions = n.questions; events_fit = n.events_fit; paths_fit = all_fit_of (length t.paths) o Ns n.paths_fit }
 
-  accepts : NoneRefusesSet o Ns limit t → set_call o Ns limit t ≡ charged_by (walk_count l) best
-  unfolding set_call set_runs set_row
-  accepts n = whole-accepts why l (for_each Ns o) t best limit (none-refuses n)
+  accepts : NoneRefusesSet o Ns t → set_call o Ns t ≡ best
+  unfolding set_call set_row
+  accepts n = whole-accepts why l (for_each Ns o) t best (none-refuses n)
 
-  either : NoneRefusesSet o Ns limit t ⊎ ((r : ℕ) × ((set_call o Ns limit t).0 ≡ refused r))
-  unfolding set_call set_runs set_row
+  either : NoneRefusesSet o Ns t ⊎ ((r : ℕ) × ((set_call o Ns t).0 ≡ refused r))
+  unfolding set_call set_row
   either = ⊎_elim
-      (λ n. inl (record { questions = n.questions; walks_fit = n.walks_fit; events_fit = n.events_fit; paths_fit = of_all_fit (length t.paths) o Ns n.paths_fit }))
+      (λ n. inl (record { questions = n.questions; events_fit = n.events_fit; paths_fit = of_all_fit (length t.paths) o Ns n.paths_fit }))
       inr
-      (whole-either why l (for_each Ns o) t best limit)
+      (whole-either why l (for_each Ns o) t best)
 
-  is-accepted : NoneRefusesSet o Ns limit t → (set_call o Ns limit t).0 ≡ accepted told
-  unfolding chosen with_walks
+  is-accepted : NoneRefusesSet o Ns t → (set_call o Ns t).0 ≡ accepted told
+  unfolding chosen
   is-accepted n = ap (λ (x : Outcome). x.0) (accepts n)
 
-  accepts-told : (f : Row) → (set_call o Ns limit t).0 ≡ accepted f → NoneRefusesSet o Ns limit t
+  accepts-told : (f : Row) → (set_call o Ns t).0 ≡ accepted f → NoneRefusesSet o Ns t
   accepts-told f same = ⊎_elim (λ n. n) (λ r. absurd (refused_not_accepted r.0 f (sym r.1 ∙ same))) either
 
-  counts-left : NoneRefusesSet o Ns limit t → (set_call o Ns limit t).1.undetected ≡ padded (length t.undetected) 0 (undetected_counts l (set_choice o Ns).polynomial)
+  counts-left : NoneRefusesSet o Ns t → (set_call o Ns t).1.undetected ≡ padded (length t.undetected) 0 (undetected_counts l (set_choice o Ns).polynomial)
   unfolding chosen filled_search set_choice choice_among
   counts-left n = ap (λ (x : Outcome). x.1.undetected) (accepts n)
 
-  accepted-shortest : NoneRefusesSet o Ns limit t → AcceptedWhole (with_length (shortest Ns) o)
+  accepted-shortest : NoneRefusesSet o Ns t → AcceptedWhole (with_length (shortest Ns) o)
   unfolding search_questions questions with_length
   accepted-shortest n =
       let q : Order = with_length (shortest Ns) o in
       accepted_whole q (none_in_parts _ _ (numbered-order everything q) (passed o Ns _ _ _ n.questions).search).0
 
-  names-choice : NoneRefusesSet o Ns limit t → NamesBestOfSet o Ns t (set_call o Ns limit t).1 (set_choice o Ns).polynomial (set_choice o Ns).shared
+  names-choice : NoneRefusesSet o Ns t → NamesBestOfSet o Ns t (set_call o Ns t).1 (set_choice o Ns).polynomial (set_choice o Ns).shared
   unfolding longest with_length
   names-choice n =
       let whole = accepted-shortest n in
@@ -139,41 +134,20 @@ module _ (o : Order) (Ns : List ℕ) (limit : ℕ) (t : SearchTables) where
         first-weights = λ N m q c. first-weight (with_length N o) q c.0 whole.order.threshold.some_weight;
       }
 
-  names_best : (f : Row) → (set_call o Ns limit t).0 ≡ accepted f → NamesBestOfSet o Ns t (set_call o Ns limit t).1 f.polynomial f.shared
+  names_best : (f : Row) → (set_call o Ns t).0 ≡ accepted f → NamesBestOfSet o Ns t (set_call o Ns t).1 f.polynomial f.shared
   names_best f same =
       let n = accepts-told f same in
       let is : told ≡ f = accepted_same (sym (is-accepted n) ∙ same) in
-      subst (λ (x : Row). NamesBestOfSet o Ns t (set_call o Ns limit t).1 x.polynomial x.shared) is (names-choice n)
+      subst (λ (x : Row). NamesBestOfSet o Ns t (set_call o Ns t).1 x.polynomial x.shared) is (names-choice n)
 
-  tells_walks : (f : Row) → (set_call o Ns limit t).0 ≡ accepted f → f.walks ≡ walk_count l
-  tells_walks f same = sym (ap (λ (x : Row). x.walks) (accepted_same (sym (is-accepted (accepts-told f same)) ∙ same)))
-
-  -- ---- the limit
-
-  pub set-larger : (limit' : ℕ) → limit ≤ limit' → ((set_call o Ns limit t).0 ≡ refused 18 → ⊥) → set_call o Ns limit' t ≡ set_call o Ns limit t
-  unfolding set_call set_runs set_row
-  set-larger = whole-larger why l (for_each Ns o) t best limit
-
-  not-18 : T (has_not 18 (set_questions o Ns (length t.plain) (length t.undetected) (length t.work)))
-  unfolding set_questions kind_questions length_questions search_questions questions job_questions with_length
-  not-18 =
-      let q : Order = with_length (shortest Ns) o in
-      has_not_++ 18 (order_questions everything q) (job_questions J.Choose o.m (o.d - 1) (length t.plain) (length t.undetected) (length t.work)) (order_not_18 everything q) tt
-
-  pub set-18 : ((set_call o Ns limit t).0 ≡ refused 18) ↔ ((why ≡ 0) × (limit < walk_count l))
-  unfolding set_call set_runs set_row chosen refusal_number
-  set-18 = eighteen-exactly why l (for_each Ns o) t best (never_refuses 18 (set_questions o Ns (length t.plain) (length t.undetected) (length t.work)) tt not-18) refl limit
-
-pub set_promise : (o : Order) (Ns : List ℕ) (limit : ℕ) (lent : SearchTables) → SetPromise o Ns limit lent (set_call o Ns limit lent).0 (set_call o Ns limit lent).1
-set_promise o Ns limit t = record {
-  names_best = names_best o Ns limit t;
-  accepts_exactly = (λ h. accepts-told o Ns limit t h.0 h.1, λ n. (told o Ns limit t, is-accepted o Ns limit t n));
-  one_length = λ N e. subst (λ (Ms : List ℕ). set_call o Ms limit t ≡ search_call (with_length N o) limit t) (sym e) (one_length-call o N limit t);
-  tells_walks = tells_walks o Ns limit t;
-  larger_limit = λ f e limit' h. set-larger o Ns limit t limit' h (λ r. refused_not_accepted 18 f (sym r ∙ e));
+pub set_promise : (o : Order) (Ns : List ℕ) (lent : SearchTables) → SetPromise o Ns lent (set_call o Ns lent).0 (set_call o Ns lent).1
+set_promise o Ns t = record {
+  names_best = names_best o Ns t;
+  accepts_exactly = (λ h. accepts-told o Ns t h.0 h.1, λ n. (told o Ns t, is-accepted o Ns t n));
+  one_length = λ N e. subst (λ (Ms : List ℕ). set_call o Ms t ≡ search_call (with_length N o) t) (sym e) (one_length-call o N t);
 }
 
 -- of what `search_set` answers and leaves: its contract is the premise
-pub set_promises : (order : OrderRecord) (Ns : List ℕ) (limit : ℕ) (lent left : SearchTables) (r : Answered) → (answered_as r, left) ≡ set_call (order_in order) Ns limit lent
-    → SetPromise (order_in order) Ns limit lent (answered_as r) left
-set_promises order Ns limit lent left r e = subst (λ (x : Outcome). SetPromise (order_in order) Ns limit lent x.0 x.1) (sym e) (set_promise (order_in order) Ns limit lent)
+pub set_promises : (order : OrderRecord) (Ns : List ℕ) (lent left : SearchTables) (r : Answered) → (answered_as r, left) ≡ set_call (order_in order) Ns lent
+    → SetPromise (order_in order) Ns lent (answered_as r) left
+set_promises order Ns lent left r e = subst (λ (x : Outcome). SetPromise (order_in order) Ns lent x.0 x.1) (sym e) (set_promise (order_in order) Ns lent)

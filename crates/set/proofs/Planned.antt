@@ -1,4 +1,4 @@
--- The plan for a set of lengths: what its questions let its job assume (`to-make-set`), and that it runs as the set does (`set_runs`).
+-- The plan for a set of lengths: what its questions let its job assume (`to-make-set`), and that its job makes the row of the set (`set-made`).
 -- Assumes nothing.
 use Prim.Native.Nat.{ℕ, zero, suc, ◌+◌, ◌-◌, ◌≤◌, ◌<◌}
 use native.Mathlib.Nat.{le_refl, le_trans}
@@ -19,7 +19,7 @@ use Rattle.order.specs.declared.record.OrderRecord.{OrderRecord}
 use Rattle.order.specs.Model.Lengths.{NoLonger}
 use Rattle.order.proofs.FirstNo.{none_in_parts}
 use Rattle.order.proofs.Asked.{numbered-order, accepted_whole}
-use Rattle.order.proofs.Lengths.{no_longer_itself, accepted_with}
+use Rattle.order.proofs.Lengths.{no_longer_itself}
 use Rattle.row.specs.declared.Row.{Row}
 use Rattle.undetected.specs.Undetected.{undetected_counts}
 use Rattle.choice.specs.Choice.{candidates, first_of, Choice, choice_among}
@@ -32,14 +32,11 @@ use Rattle.jobs.specs.declared.Job.{Job}
 use Rattle.jobs.specs.declared.Job.TheVariants as J
 use Rattle.jobs.specs.declared.Plan.{Plan}
 use Rattle.jobs.specs.Jobs.{SearchTables, cleared_search, unless_too_many, chosen, rows_of, made, ran}
-use Rattle.limit.specs.Walks.{walk_count}
-use Rattle.limit.specs.Limit.{unless_passed}
-use Rattle.jobs.specs.Model.Steps.{row_order, ran_by, ToChooseFor, ToServe, JobAsks, ToMake}
-use Rattle.calls.specs.Calls.{questions, runs}
-use Rattle.calls.specs.Model.Plans.{call_in}
+use Rattle.jobs.specs.Model.Steps.{row_order, ToChooseFor, ToServe, JobAsks, ToMake}
+use Rattle.calls.specs.Calls.{questions}
 use Rattle.calls.proofs.Accepts.{chosen-rooms}
 use Rattle.search.specs.Calls.{search_questions}
-use Rattle.set.specs.Calls.{shortest, set_questions, set_row, set_runs}
+use Rattle.set.specs.Calls.{shortest, set_questions, set_row}
 use Rattle.set.specs.Model.Plans.{AfterFirst, PlannedFor}
 use Rattle.set.proofs.Lists.{at_most_first}
 use Rattle.set.proofs.Asked.{Passed, passed}
@@ -103,7 +100,7 @@ row_of_more o N Ns t =
 
 -- ---- what is asked
 
-module _ {o : Order} {Ns : List ℕ} {limit : ℕ} {plan : Plan} (planned : PlannedFor o Ns limit plan) where
+module _ {o : Order} {Ns : List ℕ} {plan : Plan} (planned : PlannedFor o Ns plan) where
   row_is : 1 ≤ length Ns → row_order plan ≡ longest o Ns
   unfolding row_order longest with_length
   row_is some = ap₂ with_length planned.bits planned.order
@@ -120,8 +117,31 @@ module _ {o : Order} {Ns : List ℕ} {limit : ℕ} {plan : Plan} (planned : Plan
         let whole = accepted_whole q parts.0 in
         chosen-rooms q whole.order plan.shorter plain undetected work whole.degree parts.1
 
+    -- the order is accepted for any of the lengths
+    accepted-at : (N : ℕ) → o.v ≤ N → N ≤ longest_word → Accepted (with_length N o)
+    unfolding with_length
+    accepted-at N low high =
+        let a = asks.0.list.order in
+        record {
+          code = record {
+            some_version = a.code.some_version;
+            known_version = a.code.known_version;
+            some_generators = a.code.some_generators;
+            few_generators = a.code.few_generators;
+            some_memory = a.code.some_memory;
+            small_memory = a.code.small_memory;
+            long_enough = low;
+            at_most_128 = high;
+            is_in_range = a.code.is_in_range;
+            one_has_bit_v = a.code.one_has_bit_v;
+            one_has_bit_0 = a.code.one_has_bit_0;
+            shares_no_factor = a.code.shares_no_factor;
+          };
+          threshold = record { some_weight = a.threshold.some_weight; at_most_64 = a.threshold.at_most_64 };
+        }
+
     at : (i : ℕ) → i < length Ns → Accepted (with_length (get_or Ns i 0) o)
-    at i h = let l = here.long i h in accepted_with o (shortest Ns) (get_or Ns i 0) l.0 l.1 asks.0.list.order
+    at i h = let l = here.long i h in accepted-at (get_or Ns i 0) l.0 l.1
 
     of-longest : ToChooseFor (longest o Ns) plain undetected
     unfolding longest with_length shortest
@@ -192,16 +212,10 @@ module _ {o : Order} {Ns : List ℕ} {limit : ℕ} {plan : Plan} (planned : Plan
         ap (λ (Ms : List ℕ). ran J.ChooseFor Ms l l t) (after_is Ns plan.shorter a)
         ∙ subst (λ (Ms : List ℕ). ran J.ChooseFor (rest Ns) (longest o Ms) (longest o Ms) t ≡ set_row o Ms t) (sym (split Ns some)) (row_of_more o (first_of Ns) (rest Ns) t)
 
-    set-made : ran_by plan t ≡ set_row o Ns t
+    pub set-made : ran plan.job (shorter_in plan.shorter) (order_in plan.order) (row_order plan) t ≡ set_row o Ns t
     set-made =
         ap₂ (λ (x y : Order). ran plan.job (shorter_in plan.shorter) x y t) planned.order (row_is some)
         ∙ ⊎_elim
         (λ one. ap (λ (job : Job). ran job (shorter_in plan.shorter) l l t) one.1 ∙ one-made one.0)
         (λ more. ap (λ (job : Job). ran job (shorter_in plan.shorter) l l t) more.0 ∙ more-made more.1)
         planned.job
-
-    pub set_runs : runs (call_in plan) t ≡ set_runs o Ns limit t
-    unfolding runs set_runs row_order
-    set_runs =
-        ap₂ (λ (x : Order) (k : ℕ). unless_passed (walk_count x) k (cleared_search t) (ran_by plan t)) planned.order planned.within
-        ∙ ap (unless_passed (walk_count l) limit (cleared_search t)) set-made

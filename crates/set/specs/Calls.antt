@@ -1,7 +1,7 @@
 -- What the search for a set of lengths answers and leaves (document 02, C-17), for every order, every list of lengths and whatever tables are lent. The list is
 -- of the longest length first; the order's own N is not looked at.
 -- Questions 2, 3 and 4 are about the order; then 17 and 5 about the lengths; then come those of the search for the shortest, which asks 6 of it, and asks again
--- what has passed. 18 and 13 are asked of the longest, 14 of each length.
+-- what has passed. 13 is asked of the longest, 14 of each length.
 -- Assumes nothing.
 use Rattle.std.specs.Prelude.{ℕ, ◌-◌, Bool, true, ◌&&◌, List, [], ◌∷◌, ◌++◌, ltb, length, get_or}
 use Rattle.lists.specs.Lists.{all}
@@ -9,14 +9,12 @@ use Rattle.order.specs.Questions.{Question, first_no, from_to, highest_version, 
 use Rattle.order.specs.Order.{Order, with_length}
 use Rattle.order.specs.Answer.{Answer, unless_refused}
 use Rattle.row.specs.declared.Row.{Row}
-use Rattle.limit.specs.Walks.{walk_count}
-use Rattle.limit.specs.Limit.{unless_passed}
 use Rattle.narrowing.specs.Narrowed.{longest, set_choice}
 use Rattle.lengths.specs.Shorter.{for_each}
 use Rattle.jobs.specs.Jobs.{SearchTables, cleared_search, unless_too_many, chosen}
 use Rattle.search.specs.Calls.{search_questions}
 
--- ---- the questions before 18
+-- ---- the questions before 13
 
 -- each is below the one before, the first below N
 unfoldable pub all_below : ℕ → List ℕ → Bool
@@ -50,9 +48,5 @@ unfoldable pub set_row : Order → List ℕ → SearchTables → Answer Row × S
 set_row o Ns t =
     unless_too_many (longest o Ns) (for_each Ns o) (length t.events) (length t.paths) (cleared_search t) (chosen (longest o Ns) (longest o Ns) t (set_choice o Ns))
 
--- within the limit on the walks of the longest
-unfoldable pub set_runs : Order → List ℕ → (limit : ℕ) → SearchTables → Answer Row × SearchTables
-set_runs o Ns limit t = unless_passed (walk_count (longest o Ns)) limit (cleared_search t) (set_row o Ns t)
-
-unfoldable pub set_call : Order → List ℕ → (limit : ℕ) → SearchTables → Answer Row × SearchTables
-set_call o Ns limit t = unless_refused (first_no (set_questions o Ns (length t.plain) (length t.undetected) (length t.work))) t (set_runs o Ns limit t)
+unfoldable pub set_call : Order → List ℕ → SearchTables → Answer Row × SearchTables
+set_call o Ns t = unless_refused (first_no (set_questions o Ns (length t.plain) (length t.undetected) (length t.work))) t (set_row o Ns t)

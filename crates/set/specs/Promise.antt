@@ -1,4 +1,4 @@
--- What the search for a set of lengths promises: of an order of either kind of link, a list of lengths, a limit, what was lent, what is answered and what is left.
+-- What the search for a set of lengths promises: of an order of either kind of link, a list of lengths, what was lent, what is answered and what is left.
 -- `set_promise` (proofs/Demand.antt) proves it of the definition of the call, and `set_promises` of what the function itself answers and leaves.
 -- Assumes nothing.
 use Rattle.std.specs.Prelude.{ℕ, ◌≤◌, ◌<◌, ◌≡◌, ◌↔◌, length}
@@ -9,7 +9,6 @@ use Rattle.order.specs.Order.{Order, with_length, of_weight}
 use Rattle.order.specs.Answer.{Answer, accepted}
 use Rattle.row.specs.declared.Row.{Row}
 use Rattle.events.specs.Events.{events}
-use Rattle.limit.specs.Walks.{walk_count}
 use Rattle.paths.specs.Paths.{paths, path_room}
 use Rattle.undetected.specs.Undetected.{undetected_counts, CountsUndetected}
 use Rattle.undetected.specs.FirstUndetected.{first_undetected, FirstWeight}
@@ -18,12 +17,11 @@ use Rattle.narrowing.specs.Narrowed.{longest}
 use Rattle.narrowing.specs.LeftAfter.{BestOfSet}
 use Rattle.jobs.specs.Jobs.{SearchTables}
 use Rattle.search.specs.Calls.{search_call}
-use Rattle.set.specs.Calls.{set_questions, set_call}
+use Rattle.set.specs.Calls.{set_questions}
 
 -- no question refuses
-pub record NoneRefusesSet (o : Order) (Ns : List ℕ) (limit : ℕ) (lent : SearchTables) : Type 0 where
+pub record NoneRefusesSet (o : Order) (Ns : List ℕ) (lent : SearchTables) : Type 0 where
   pub questions : first_no (set_questions o Ns (length lent.plain) (length lent.undetected) (length lent.work)) ≡ 0
-  pub walks_fit : walk_count (longest o Ns) ≤ limit
   pub events_fit : length (events (longest o Ns)) ≤ length lent.events
   pub paths_fit : (N : ℕ) → Memᴰ N Ns → length (paths (with_length N o)) ≤ path_room (length lent.paths)
 
@@ -38,12 +36,8 @@ pub record NamesBestOfSet (o : Order) (Ns : List ℕ) (lent left : SearchTables)
   -- and at each length the first undetected weight is what its name says
   pub first-weights : (N : ℕ) → Memᴰ N Ns → (q : ℕ) → IsCandidate o.m q → FirstWeight (with_length N o) q (first_undetected (with_length N o) q)
 
-pub record SetPromise (o : Order) (Ns : List ℕ) (limit : ℕ) (lent : SearchTables) (answer : Answer Row) (left : SearchTables) : Type 0 where
+pub record SetPromise (o : Order) (Ns : List ℕ) (lent : SearchTables) (answer : Answer Row) (left : SearchTables) : Type 0 where
   pub names_best : (f : Row) → answer ≡ accepted f → NamesBestOfSet o Ns lent left f.polynomial f.shared
-  pub accepts_exactly : ((f : Row) × (answer ≡ accepted f)) ↔ NoneRefusesSet o Ns limit lent
+  pub accepts_exactly : ((f : Row) × (answer ≡ accepted f)) ↔ NoneRefusesSet o Ns lent
   -- a list of one length gives what the search gives, answer and every table
-  pub one_length : (N : ℕ) → Ns ≡ N ∷ [] → (answer, left) ≡ search_call (with_length N o) limit lent
-  -- the walks that are told are those of the longest length
-  pub tells_walks : (f : Row) → answer ≡ accepted f → f.walks ≡ walk_count (longest o Ns)
-  -- and a larger limit changes nothing of a row that was given
-  pub larger_limit : (f : Row) → answer ≡ accepted f → (limit' : ℕ) → limit ≤ limit' → set_call o Ns limit' lent ≡ (answer, left)
+  pub one_length : (N : ℕ) → Ns ≡ N ∷ [] → (answer, left) ≡ search_call (with_length N o) lent

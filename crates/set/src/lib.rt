@@ -54,8 +54,7 @@ fn all_long_enough(v: u64, lengths: &[u64]) -> bool
     true
 }
 
-// All questions before 18: the number of the first that says no, or 0. A word of v bits passes question 5, so that the first part asks 2, 3 and 4 alone; none is
-// about the limit.
+// All questions before 13: the number of the first that says no, or 0. A word of v bits passes question 5, so that the first part asks 2, 3 and 4 alone.
 fn ask_set(order: OrderRecord, lengths: &[u64], plain: usize, undetected: usize, size: usize) -> u64
     ensures { result ≡ first_no (set_questions (order_in order) lengths.now plain undetected size) }
 {
@@ -77,7 +76,7 @@ fn ask_set(order: OrderRecord, lengths: &[u64], plain: usize, undetected: usize,
         return 5;
     }
     let shortest = with_length(lengths[lengths.len() - 1], order);
-    ask(choosing(shortest, 0), plain, undetected, size)
+    ask(choosing(shortest), plain, undetected, size)
 }
 
 // ---- the plan
@@ -101,13 +100,13 @@ fn after_first(lengths: &[u64]) -> Shorter
 }
 
 // For one length the best is chosen as the search chooses it: narrowing by one length changes nothing.
-fn plan_for(order: OrderRecord, lengths: &[u64], limit: u64) -> Plan
+fn plan_for(order: OrderRecord, lengths: &[u64]) -> Plan
     requires { SomeLengths lengths.now }
-    ensures { PlannedFor (order_in order) lengths.now limit result }
+    ensures { PlannedFor (order_in order) lengths.now result }
 {
     let longest = with_length(lengths[0], order);
     if lengths.len() == 1 {
-        return choosing(longest, limit);
+        return choosing(longest);
     }
     Plan {
         order: longest,
@@ -115,31 +114,29 @@ fn plan_for(order: OrderRecord, lengths: &[u64], limit: u64) -> Plan
         bits: longest.bits,
         shorter: after_first(lengths),
         job: Job::ChooseFor,
-        limit,
     }
 }
 
 // ---- the call
 
 // The best check polynomial of degree m for words of each of these lengths, the longest first: the order's own N is not looked at. Tables and counts are left
-// as by the search for the longest length, and how many of those left share the counts is told, with the walks of the longest. Refused with 18 or 13, which are
-// about the longest, or with 14, about each, all that is lent is zero; refused with an earlier number, nothing is changed.
+// as by the search for the longest length, and how many of those left share the counts is told. Refused with 13, which is about the longest, or with 14,
+// about each, all that is lent is zero; refused with an earlier number, nothing is changed.
 pub fn search_set(
     order: OrderRecord,
     lengths: &[u64],
-    limit: u64,
     events: &mut [Event],
     paths: &mut [u64],
     plain: &mut [u64],
     undetected: &mut [u64],
     work: &mut [u64],
 ) -> Answered
-    ensures { (answered_as result, search_tables events.new paths.new plain.new undetected.new work.new) ≡ set_call (order_in order) lengths.now limit (search_tables events.old paths.old plain.old undetected.old work.old) }
+    ensures { (answered_as result, search_tables events.new paths.new plain.new undetected.new work.new) ≡ set_call (order_in order) lengths.now (search_tables events.old paths.old plain.old undetected.old work.old) }
 {
     let why = ask_set(order, lengths, plain.len(), undetected.len(), work.len());
     if why != 0 {
         return refuse(why);
     }
-    let plan = plan_for(order, lengths, limit);
+    let plan = plan_for(order, lengths);
     run(0, plan, events, paths, plain, undetected, work)
 }

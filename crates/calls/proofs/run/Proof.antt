@@ -8,6 +8,7 @@ use Rattle.lists.specs.Lists.{cleared}
 use Rattle.lists.proofs.Choices.{eqb_differs}
 use Rattle.lists.proofs.clear_words.Met as clear-words
 use Rattle.order.specs.Answer.{Answer, refusal_number, unless_refused}
+use Rattle.order.specs.Answers.{order_in}
 use Rattle.order.proofs.FirstNo.{leaves-refused, leaves-answered}
 use Rattle.events.specs.declared.Event.{Event}
 use Rattle.events.specs.Events.{no_event}
@@ -16,16 +17,15 @@ use Rattle.row.specs.declared.Row.{Row}
 use Rattle.row.specs.declared.Answered as SS
 use Rattle.row.specs.declared.Answered.TheVariants as A
 use Rattle.row.specs.Answered.{answered_as, refusal_of}
+use Rattle.lengths.specs.Shorter.{shorter_in}
 use Rattle.jobs.specs.declared.Plan as SP
-use Rattle.jobs.specs.Jobs.{SearchTables, search_tables, cleared_search}
-use Rattle.jobs.specs.Model.Steps.{MadeAs}
+use Rattle.jobs.specs.Jobs.{SearchTables, search_tables, cleared_search, ran}
+use Rattle.jobs.specs.Model.Steps.{row_order, MadeAs}
 use Rattle.jobs.proofs.Plains.{Answered, Plan, tables}
+use Rattle.jobs.proofs.Answers.{late}
 use Rattle.row.proofs.refuse.Met as refuse
 use Rattle.row.proofs.refusal_of.Met as refusal-of
-use Rattle.calls.specs.Calls.{runs}
-use Rattle.calls.specs.Model.Plans.{call_in}
-use Rattle.calls.proofs.Within.{late-runs}
-use Rattle.calls.proofs.make_within.Met as make-within
+use Rattle.jobs.proofs.make.Met as make
 use Rattle.calls.proofs.run as run
 
 abbrev ks : List Kind
@@ -41,7 +41,7 @@ refusal-told (A.Refused k) = refl
 
 module _ (why : ℕ) (plan : SP.Plan) (t : SearchTables) where
   abbrev outcome : Outcome
-  outcome = runs (call_in plan) t
+  outcome = ran plan.job (shorter_in plan.shorter) (order_in plan.order) (row_order plan) t
 
   abbrev Says : SS.Answered → SearchTables → Type 0
   Says r left = ◌≡◌ {A = Outcome} (answered_as r, left) (unless_refused why t outcome)
@@ -49,7 +49,7 @@ module _ (why : ℕ) (plan : SP.Plan) (t : SearchTables) where
   is-refused : (r : SS.Answered) → r ≡ A.Refused why → (why ≡ 0 → ⊥) → Says r t
   is-refused r e n = ap (λ (x : SS.Answered). (answered_as x, t)) e ∙ leaves-refused t outcome why why refl n
 
-  module _ (good : why ≡ 0) (r : SS.Answered) (left : SearchTables) (done : MadeAs outcome (answered_as r) left) (k : ℕ) (is : k ≡ refusal_of r) where
+  module _ (good : why ≡ 0) (r : SS.Answered) (left : SearchTables) (done : MadeAs plan t (answered_as r) left) (k : ℕ) (is : k ≡ refusal_of r) where
     is_made : k ≡ 0 → Says r left
     is_made z = ap₂ (λ (a : Answer Row) (x : SearchTables). (a, x)) done.answered (done.leaves (refusal-told r ∙ sym is ∙ z)) ∙ leaves-answered t outcome why (sym good)
 
@@ -58,7 +58,7 @@ module _ (why : ℕ) (plan : SP.Plan) (t : SearchTables) where
     unfolding cleared_search cleared
     is-cleared n es ls ms ds us e-es e-ls e-ms e-ds e-us =
         ap₂ (λ (a : Answer Row) (x : SearchTables). (a, x)) done.answered (λ i. search_tables (e-es i) (e-ls i) (e-ms i) (e-ds i) (e-us i))
-        ∙ sym (late-runs plan t (λ z. n (is ∙ sym (refusal-told r) ∙ ap refusal_number done.answered ∙ z)))
+        ∙ sym (late plan.shorter (order_in plan.order) (row_order plan) t plan.job (λ z. n (is ∙ sym (refusal-told r) ∙ ap refusal_number done.answered ∙ z)))
         ∙ leaves-answered t outcome why (sym good)
 
 zeros-as : {A : Type 0} (z : A) (l m : List A) (n : ℕ) → m ≡ replicate (length l) z → length l ≡ n → m ≡ replicate n z
@@ -83,7 +83,7 @@ run_spec 𝓤 𝓛 𝓜 𝓡 =
     let accepted : why.it ≡ 0 = is_zero why.it good in
     relend-all ! g lists refl $
     let making : List Par = val plan ∷ lists in
-    calls-asked 𝓣 ! g (entries ks) making Answered make-within.met (may accepted) refl (λ r is-r (es, (ls, (ms, (ds, (us, _))))) done (ke, (kl, (km, (kd, (ku, _))))).
+    calls-asked 𝓣 ! g (entries ks) making Answered make.met (may accepted) refl (λ r is-r (es, (ls, (ms, (ds, (us, _))))) done (ke, (kl, (km, (kd, (ku, _))))).
     calls 𝓣 ! g [] (res Answered r is-r ∷ []) number refusal-of.met refl (λ k is-k _ e-k _.
     remakes ! g (bin ! (var ! g refl) (lit ! tt) tt) refl (tt, tt) $
     if_returns 𝓣 ! (var ! g refl)

@@ -14,7 +14,6 @@ use types.Run.{and_then, no_more}
 use denote.Triple.Spec.{triple_of}
 use denote.Triple.Statement.{Contract}
 use denote.Triple.Cycle.{Stated, measured, mutual_elim}
-use Rattle.lists.proofs.Tests.{half}
 use Rattle.lists.proofs.Choices.{eqb_differs}
 use Rattle.walks.proofs.Frame.{length, ◌≡◌, refl, ◌∙◌, ap, none, just, List, [], ◌∷◌, Ura, Model, Running, tables_of, ◌$◌, !, lit, of_opd, bin, u64, over, tabled, var, part_of, makes, remakes, number, Kind, refs, locals, places, names, by_value, shared, lent, Par}
 use Rattle.walks.proofs.Frame.{the, all_of, num, res, pars, own_bound, bound, val, mut, asks, relend, calls_by, calls-into, calls-asked, if_returns, finish, by-steps-at}
@@ -52,6 +51,9 @@ ks-j = shared T.the_row ∷ shared u64 ∷ lent u64 ∷ by_value number ∷ by_v
 
 one_more : (a : ℕ) → a < a + 1
 one_more a = omega arith
+
+half : (n : ℕ) → n < 2 ^ 64 → n / 2 < 2 ^ 64
+half n h = omega arith
 
 module _ {M : Type 1} {𝓤 : Ura M} (𝓛 : Logic 𝓤) (𝓜 : Model 𝓤 𝓛.H) (𝓡 : Running 𝓤 𝓛.H 𝓜) where
   abbrev Chaining : Contract 𝓤

@@ -10,7 +10,6 @@ use mir.Val.{vint}
 use Rattle.walks.proofs.Frame.{◌≡◌, refl, ◌∙◌, ap, List, [], ◌∷◌, vunit, ◌$◌, !, lit, of_opd, bin, u64, var, makes, remakes, number, nothing, Kind, refs, locals, places, names, by_value, shared, lent, Par, the, all_of, num, res, pars, own_bound, val, mut, relend, counts, recalls, calls}
 use Rattle.walks.proofs.Frame.{calls-asked, recalls-asked, finish, by-steps-asked}
 use Rattle.walks.proofs.Loops.{while, repeats}
-use Rattle.lists.proofs.Tests.{half}
 use Rattle.lists.specs.Lists.{cleared}
 use Rattle.lists.proofs.clear_words.Met as clear-words
 use Rattle.order.specs.Order as O
@@ -43,6 +42,9 @@ area-inside n h = omega arith
 
 wide-as : (l : List ℕ) (n : ℕ) → length l ≡ n → area_size ≤ n → area_size ≤ length l
 wide-as l n e h = omega arith
+
+half : (n : ℕ) → n < 2 ^ 64 → n / 2 < 2 ^ 64
+half n h = omega arith
 
 zeros-as : (l m : List ℕ) (n : ℕ) → m ≡ replicate (length l) 0 → length l ≡ n → m ≡ replicate n 0
 zeros-as l m n e h = e ∙ ap (λ (k : ℕ). replicate k 0) h

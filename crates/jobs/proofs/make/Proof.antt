@@ -8,7 +8,6 @@ use mathlib.Core.Logic.{inl, inr}
 use lib.Dec.{ltb→lt, nltb→le, lit<}
 use Rattle.walks.proofs.Frame.{length, ◌≡◌, refl, sym, ◌∙◌, ap, List, [], ◌∷◌, ◌$◌, !, lit, of_opd, bin, var, part_of, makes, remakes, number, Kind, refs, places, names, by_value, Par, all_of, at_loan, num, res, pars, own_bound, val, shr, mut, as_lent, as_long, relend, counts, relend-all}
 use Rattle.walks.proofs.Frame.{calls, calls-asked, shares_at, unshares-at, if_returns, finish, is_zero, by-steps-asked}
-use Rattle.lists.proofs.Tests.{half}
 use Rattle.lists.proofs.Choices.{eqb_differs}
 use Rattle.order.specs.Order as O
 use Rattle.order.specs.Order.{with_length}
@@ -47,6 +46,9 @@ mod Told
 
 abbrev ks : List Kind
 ks = by_value Plan ∷ tables
+
+half : (n : ℕ) → n < 2 ^ 64 → n / 2 < 2 ^ 64
+half n h = omega arith
 
 pub make_spec : {M : Type 1} → make.Statement.statement M
 unfolding make.Code.routine order_in row_order with_length path_room OneTooMany

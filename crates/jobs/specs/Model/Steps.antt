@@ -111,13 +111,8 @@ Finished J.ChooseFor m entries noted e k table plain before after r =
     (flags : List Bool) × LeftBy m entries noted table plain flags × ChoseOf (offered_by m flags) (λ n. n) m entries e k table plain before after r
 Finished (J.Count p) m entries noted e k table plain before after r = ChoseOf (p ∷ []) (λ n. 0) m entries e k table plain before after r
 
--- ---- what is made
+-- ---- what is made: the answer, and where it is no refusal the tables too
 
--- what the job of a plan answers and leaves
-abbrev pub ran_by : Plan → SearchTables → Answer Row × SearchTables
-ran_by p t = ran p.job (shorter_in p.shorter) (order_in p.order) (row_order p) t
-
--- the answer, and where it is no refusal the tables too
-pub record MadeAs (outcome : Answer Row × SearchTables) (answer : Answer Row) (left : SearchTables) : Type 0 where
-  pub answered : answer ≡ outcome.0
-  pub leaves : refusal_number answer ≡ 0 → left ≡ outcome.1
+pub record MadeAs (plan : Plan) (lent : SearchTables) (answer : Answer Row) (left : SearchTables) : Type 0 where
+  pub answered : answer ≡ (ran plan.job (shorter_in plan.shorter) (order_in plan.order) (row_order plan) lent).0
+  pub leaves : refusal_number answer ≡ 0 → left ≡ (ran plan.job (shorter_in plan.shorter) (order_in plan.order) (row_order plan) lent).1

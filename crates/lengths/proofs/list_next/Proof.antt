@@ -7,7 +7,6 @@ use lib.Dec.{ltb→lt, nltb→le, lit<}
 use Rattle.walks.proofs.Frame.{length, ◌≡◌, refl, sym, ◌∙◌, ap, List, [], ◌∷◌, ◌$◌, !, lit, of_opd, bin, u64, var, part_of, makes, remakes, number, Kind}
 use Rattle.walks.proofs.Frame.{refs, places, entries, typed, names, by_value, shared, lent, Par, the, all_of, at_loan, res, pars, own_bound, val, shr, mut, as_lent, as_long, relend-all}
 use Rattle.walks.proofs.Frame.{calls, calls-asked, shares_at, unshares-at, if_returns, finish, is_zero, by-steps-asked}
-use Rattle.lists.proofs.Tests.{half}
 use Rattle.lists.proofs.Choices.{eqb_differs}
 use Rattle.order.specs.Order as O
 use Rattle.order.specs.Answers.{order_in}
@@ -25,6 +24,9 @@ use Rattle.lengths.proofs.list_next as list-next
 
 abbrev ks : List Kind
 ks = by_value Order ∷ by_value Noted ∷ shared T.the_row ∷ by_value number ∷ lent u64 ∷ lent u64 ∷ lent u64 ∷ []
+
+half : (n : ℕ) → n < 2 ^ 64 → n / 2 < 2 ^ 64
+half n h = omega arith
 
 pub list-next-spec : {M : Type 1} → list-next.Statement.statement M
 unfolding list-next.Code.routine order_in path_room

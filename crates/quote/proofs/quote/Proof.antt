@@ -16,17 +16,17 @@ use Rattle.quote.proofs.Quoted.{quote-sound}
 use Rattle.quote.proofs as here
 
 abbrev ks : List Kind
-ks = by_value Order ∷ by_value number ∷ by_value number ∷ tables
+ks = by_value Order ∷ by_value number ∷ tables
 
 pub quote-spec : {M : Type 1} → here.quote.Statement.statement M
 unfolding here.quote.Code.routine order_in shorter_in up_from quote_call
 quote-spec 𝓤 𝓛 𝓜 𝓡 =
     by-steps 𝓛 𝓜 𝓡 here.quote.Code.env ks Answered (here.quote.clauses 𝓛) here.quote.Code.function (λ e. own_bound (pars ks e)) (λ e ok. ok) (λ e c. c) here.quote.Key.name (here.quote.Code.unfolded 𝓤 𝓛.H 𝓜 𝓡)
-    (λ w κs qs a g are. w (names ks κs qs a are)) (λ order bits limit events paths plain undetected work 𝓣 ends bs.
+    (λ w κs qs a g are. w (names ks κs qs a are)) (λ order bits events paths plain undetected work 𝓣 ends bs.
     let g : ℕ = refs ks in
     let lists : List Par = all_of events ∷ all_of paths ∷ all_of plain ∷ all_of undetected ∷ all_of work ∷ [] in
-    calls 𝓣 ! g [] (val order ∷ val bits ∷ val limit ∷ []) Plan here.quoting.Met.met refl (λ plan is-plan _ is _.
+    calls 𝓣 ! g [] (val order ∷ val bits ∷ []) Plan here.quoting.Met.met refl (λ plan is-plan _ is _.
     relend-all ! g lists refl $
-    calls-asked 𝓣 ! g (entries ks) (res Plan plan is-plan ∷ lists) Answered call.met (subst Sound (sym (ap call_in is)) (quote-sound (order_in order.it) bits.it limit.it)) refl (λ r is-r left told same.
+    calls-asked 𝓣 ! g (entries ks) (res Plan plan is-plan ∷ lists) Answered call.met (subst Sound (sym (ap call_in is)) (quote-sound (order_in order.it) bits.it)) refl (λ r is-r left told same.
     finish 𝓣 ! g (ends r is-r left same
     (told ∙ ap (λ (c : Call). called c (search_tables events.was paths.was plain.was undetected.was work.was)) (ap call_in is))) refl)))

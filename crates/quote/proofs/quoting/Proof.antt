@@ -14,7 +14,7 @@ longest-quoted-requires c κs = tt
 returns : tie.Need-returns
 returns c =
     let a = c.before.args in
-    ap (λ (k : ℕ). record { order = a.order; takes = record { versions = 1; longest = k; degree = true; threshold = true }; bits = a.bits; shorter = none_shorter; job = J.Choose; limit = a.limit }) c.longest-quoted.ensures
+    ap (λ (k : ℕ). record { order = a.order; takes = record { versions = 1; longest = k; degree = true; threshold = true }; bits = a.bits; shorter = none_shorter; job = J.Choose }) c.longest-quoted.ensures
 
 pub quoting-spec : {M : Type 1} → statement M
 quoting-spec = tie.close (tie.spec longest-quoted-requires returns)

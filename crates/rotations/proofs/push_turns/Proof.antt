@@ -11,7 +11,7 @@ use Rattle.code.proofs.Rotation.{rotate_zero}
 use Rattle.paths.specs.Paths.{path_room}
 use Rattle.paths.specs.Model.Joining.{turns}
 use Rattle.rotations.specs.Model.Put.{puts}
-use Rattle.rotations.proofs.AllTurns.{is_zero, is_some, turns_from, turns_zero, turns_begin, turns_again, turns_end, turned_again, turned_lt, length-after, place_after}
+use Rattle.rotations.proofs.AllTurns.{is_zero, is_some, turns_from, turns_zero, turns_begin, turns_again, turns_end, turned_again, turned_lt, length_after, place_after}
 use Rattle.rotations.proofs.push_turns.Statement.{statement}
 use Rattle.rotations.proofs.push_turns.Tie as tie
 
@@ -73,7 +73,7 @@ appended c u turned =
     let some : 0 < number (start c).args.w = is_some _ _ some_word.before.is_below_lem.ensures some_word.if1.left in
     record {
       within = omega arith;
-      same_size = length-after _ _ _ _ _ e ∙ l.inv.same_size;
+      same_size = length_after _ _ _ _ _ e ∙ l.inv.same_size;
       near = place_after _ _ _ _ _ e;
       turned = turned;
       left = turns_again _ _ l.r _ _ _ _ _ p.some_bits p.fits some (omega arith) (word-turned c) e l.inv.left;

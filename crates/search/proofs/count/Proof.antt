@@ -12,16 +12,16 @@ use Rattle.search.proofs.Plans.{own-told, own-sound}
 use Rattle.search.proofs as here
 
 abbrev ks : List Kind
-ks = by_value Order ∷ by_value number ∷ by_value number ∷ tables
+ks = by_value Order ∷ by_value number ∷ tables
 
 pub count_spec : {M : Type 1} → here.count.Statement.statement M
 unfolding here.count.Code.routine count_call
 count_spec 𝓤 𝓛 𝓜 𝓡 =
     by-steps 𝓛 𝓜 𝓡 here.count.Code.env ks Answered (here.count.clauses 𝓛) here.count.Code.function (λ e. own_bound (pars ks e)) (λ e ok. ok) (λ e c. c) here.count.Key.name (here.count.Code.unfolded 𝓤 𝓛.H 𝓜 𝓡)
-    (λ w κs qs a g are. w (names ks κs qs a are)) (λ order p limit events paths plain undetected work 𝓣 ends bs.
+    (λ w κs qs a g are. w (names ks κs qs a are)) (λ order p events paths plain undetected work 𝓣 ends bs.
     let g : ℕ = refs ks in
     let lists : List Par = all_of events ∷ all_of paths ∷ all_of plain ∷ all_of undetected ∷ all_of work ∷ [] in
-    calls 𝓣 ! g [] (val order ∷ val p ∷ val limit ∷ []) Plan here.counting.Met.met refl (λ plan is-plan _ is _.
+    calls 𝓣 ! g [] (val order ∷ val p ∷ []) Plan here.counting.Met.met refl (λ plan is-plan _ is _.
     relend-all ! g lists refl $
-    calls-asked 𝓣 ! g (entries ks) (res Plan plan is-plan ∷ lists) Answered call.met (own-sound everything (J.Count p.it) order.it limit.it plan is (le_refl 2) (le_refl 128) refl refl) refl (λ r is-r left told same.
-    finish 𝓣 ! g (ends r is-r left same (own-told everything (J.Count p.it) order.it limit.it plan is (λ x. x) _ told)) refl)))
+    calls-asked 𝓣 ! g (entries ks) (res Plan plan is-plan ∷ lists) Answered call.met (own-sound everything (J.Count p.it) order.it plan is (le_refl 2) (le_refl 128) refl refl) refl (λ r is-r left told same.
+    finish 𝓣 ! g (ends r is-r left same (own-told everything (J.Count p.it) order.it plan is (λ x. x) _ told)) refl)))

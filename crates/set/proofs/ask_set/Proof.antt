@@ -30,11 +30,11 @@ some-lengths Ns e = (range 1 8 (length Ns) (both (from_to 1 8 (length Ns)) (fall
 
 -- what is asked of the plan for the shortest is what the search for it asks
 as-searched : (order : OrderRecord) (Ns : List ℕ) (plain undetected work : ℕ) (short : OrderRecord) → order_in short ≡ with_length (shortest Ns) (order_in order)
-    → (plan : Plan) → plan ≡ own_plan everything J.Choose short 0 → (r : ℕ) → r ≡ first_no (questions (call_in plan) plain undetected work)
+    → (plan : Plan) → plan ≡ own_plan everything J.Choose short → (r : ℕ) → r ≡ first_no (questions (call_in plan) plain undetected work)
     → r ≡ first_no (search_questions (with_length (shortest Ns) (order_in order)) plain undetected work)
 unfolding search_questions
 as-searched order Ns plain undetected work short is plan planned r e =
-    e ∙ ap (λ (c : Call). first_no (questions c plain undetected work)) (own-call everything J.Choose short 0 plan planned)
+    e ∙ ap (λ (c : Call). first_no (questions c plain undetected work)) (own-call everything J.Choose short plan planned)
     ∙ ap (λ (o : Order). first_no (search_questions o plain undetected work)) is
 
 ask-shape-requires : tie.Need-ask-shape-requires

@@ -25,11 +25,11 @@ is-longest : (order long : OrderRecord) (Ns : List ℕ) → order_in long ≡ wi
 unfolding longest order_in with_length
 is-longest order long Ns is = (is ∙ ap (λ (N : ℕ). with_length N (order_in order)) (first_is Ns), ap (λ (o : Order). o.N) is ∙ first_is Ns)
 
-planned-one : (order : OrderRecord) (Ns : List ℕ) (limit : ℕ) (long : OrderRecord) → order_in long ≡ with_length (get_or Ns 0 0) (order_in order)
-    → (plan : Plan) → plan ≡ own_plan everything J.Choose long limit → length Ns ≡ 1 → PlannedFor (order_in order) Ns limit plan
-planned-one order Ns limit long is plan planned one =
+planned-one : (order : OrderRecord) (Ns : List ℕ) (long : OrderRecord) → order_in long ≡ with_length (get_or Ns 0 0) (order_in order)
+    → (plan : Plan) → plan ≡ own_plan everything J.Choose long → length Ns ≡ 1 → PlannedFor (order_in order) Ns plan
+planned-one order Ns long is plan planned one =
     let e = is-longest order long Ns is in
-    record { order = ap (λ (p : Plan). order_in p.order) planned ∙ e.0; bits = ap (λ (p : Plan). p.bits) planned ∙ e.1; within = ap (λ (p : Plan). p.limit) planned; job = inl (one, ap (λ (p : Plan). p.job) planned) }
+    record { order = ap (λ (p : Plan). order_in p.order) planned ∙ e.0; bits = ap (λ (p : Plan). p.bits) planned ∙ e.1; job = inl (one, ap (λ (p : Plan). p.job) planned) }
 
 shared-slice-read-with-length : tie.Need-shared-slice-read-with-length
 shared-slice-read-with-length c = search rules
@@ -43,7 +43,7 @@ choosing-requires c κs = search rules
 returns : tie.Need-returns
 returns c =
     let a = c.before.before.before.before.before.args in
-    planned-one a.order a.lengths.now a.limit _ c.before.before.with-length.ensures _ c.choosing.ensures c.before.if1.true
+    planned-one a.order a.lengths.now _ c.before.before.with-length.ensures _ c.choosing.ensures c.before.if1.true
 
 after-first-requires : tie.Need-after-first-requires
 after-first-requires c κs = search rules
@@ -52,7 +52,7 @@ returns-2 : tie.Need-returns-2
 returns-2 c =
     let a = c.before.before.before.before.before.args in
     let is = is-longest a.order _ a.lengths.now c.before.before.with-length.ensures in
-    record { order = is.0; bits = is.1; within = refl; job = inr (refl, c.after_first.ensures) }
+    record { order = is.0; bits = is.1; job = inr (refl, c.after_first.ensures) }
 
 pub plan-for-spec : {M : Type 1} → statement M
 plan-for-spec =

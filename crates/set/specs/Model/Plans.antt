@@ -19,9 +19,8 @@ pub record AfterFirst (Ns : List ℕ) (s : Shorter) : Type 0 where
   pub count : s.count ≡ length Ns - 1
   pub each : (i : ℕ) → i < length Ns - 1 → length_at s i ≡ get_or Ns (i + 1) 0
 
--- events are collected for the longest, which the row is for, within the limit; the best is chosen as by the search, or for shorter lengths too
-pub record PlannedFor (o : Order) (Ns : List ℕ) (limit : ℕ) (p : Plan) : Type 0 where
+-- events are collected for the longest, which the row is for; the best is chosen as by the search, or for shorter lengths too
+pub record PlannedFor (o : Order) (Ns : List ℕ) (p : Plan) : Type 0 where
   pub order : order_in p.order ≡ longest o Ns
   pub bits : p.bits ≡ first_of Ns
-  pub within : p.limit ≡ limit
   pub job : ((length Ns ≡ 1) × (p.job ≡ J.Choose)) ⊎ ((p.job ≡ J.ChooseFor) × AfterFirst Ns p.shorter)

@@ -5,9 +5,8 @@ use native.Mathlib.Nat.{le_trans}
 use native.Mathlib.Omega.{arith}
 use mathlib.Core.Path.{◌≡◌, sym, ap, ap₂, ◌∙◌, subst}
 use mathlib.Core.List.{List}
-use lib.ListN.{length}
+use lib.ListN.{length, replicate}
 use Rattle.lists.specs.Lists.{padded, cleared}
-use Rattle.lists.proofs.Lengths.{cleared_as}
 use Rattle.order.specs.Order.{Order, with_length}
 use Rattle.order.specs.Answers.{order_in}
 use Rattle.order.proofs.Lengths.{no_longer_with}
@@ -26,6 +25,10 @@ use Rattle.jobs.specs.declared.Plan.{Plan}
 use Rattle.jobs.specs.Jobs.{SearchTables}
 use Rattle.jobs.specs.Model.Steps.{row_order, only_events, listed_before, ToMake}
 use Rattle.jobs.proofs.Answers.{lists, served, few_before}
+
+cleared_as : (l m : List ℕ) → length l ≡ length m → cleared 0 l ≡ cleared 0 m
+unfolding cleared
+cleared_as l m e = ap (λ (n : ℕ). replicate n 0) e
 
 -- of the lists as they were lent
 pub filled_as : (o : Order) {table plain : List ℕ} (ls after ms counts us left : List ℕ) (at : ℕ) → length ls ≡ length table → length ms ≡ length plain
@@ -64,7 +67,7 @@ module _ (plan : Plan) (t : SearchTables) (may : ToMake plan t.plain t.undetecte
       record {
         few = few_before plan.job plan.shorter (row_order plan) t.plain t.undetected may.job;
         degree = λ h. let d = (asked h).0.whole.degree in record { some_degree = d.some_degree; at_most_12 = d.at_most_12 };
-        zeros = got.zeros ∙ cleared_as 0 t.work us (sym wide);
+        zeros = got.zeros ∙ cleared_as t.work us (sym wide);
         each = λ i h.
             let (_, serve, same) = asked (omega arith) in
             let h' : i < plan.shorter.count = subst (λ (s : Shorter). i < s.count) same h in
@@ -80,7 +83,7 @@ module _ (plan : Plan) (t : SearchTables) (may : ToMake plan t.plain t.undetecte
               all = yes.number;
               counts = room;
               wide = rw wide may.wide;
-              zeros = got.zeros ∙ cleared_as 0 t.work us (sym wide);
+              zeros = got.zeros ∙ cleared_as t.work us (sym wide);
             });
       }
 
@@ -95,11 +98,11 @@ module _ (plan : Plan) (t : SearchTables) (may : ToMake plan t.plain t.undetecte
           all = yes.number;
           counts = rw km asked.plain_room;
           wide = rw kv may.wide;
-          zeros = zeros ∙ cleared_as 0 us t.work wide ∙ cleared_as 0 t.work vs (sym kv);
+          zeros = zeros ∙ cleared_as us t.work wide ∙ cleared_as t.work vs (sym kv);
         }
 
   pub work-zero : (us₀ : List ℕ) → length us₀ ≡ length t.work → (vs : List ℕ) → vs ≡ cleared 0 us₀ → vs ≡ cleared 0 t.work
-  work-zero us₀ kept vs e = e ∙ cleared_as 0 us₀ t.work kept
+  work-zero us₀ kept vs e = e ∙ cleared_as us₀ t.work kept
 
   pub few-told : (few : ℕ) → few ≡ count_within es n (steps_of (row_order plan)) → few ≡ length (events (row_order plan))
   few-told few e =
