@@ -1,3 +1,4 @@
+#![tactic(auto)]
 // What hosts are told: each answer of the library as a struct, since an exported function cannot return an enum.
 // What is `pub` here is for the crate above; docs/DECISIONS.md lists it as internal.
 ghost use Rattle.std.specs.Prelude.{◌≡◌, ◌^◌, ◌<◌};
@@ -12,7 +13,7 @@ use text::Written;
 
 // What a call answers: the number of the refusal or 0, one number, and one word in two halves. What a call does not use is 0.
 #[repr(C)]
-#[derive(Drop)]
+#[derive(Clone, Copy)]
 pub struct HostAnswer {
     pub refusal: u64,
     pub value: u64,
@@ -22,7 +23,7 @@ pub struct HostAnswer {
 
 // What a call over lent tables answers: the number of the refusal and zeros, or 0 and the numbers of the row.
 #[repr(C)]
-#[derive(Drop)]
+#[derive(Clone, Copy)]
 pub struct RowAnswer {
     pub refusal: u64,
     pub row: Row,
@@ -30,7 +31,7 @@ pub struct RowAnswer {
 
 // Where the words of one weight stand in the caller's path table: their first number, and how many numbers; or refusal 10 and zeros.
 #[repr(C)]
-#[derive(Drop)]
+#[derive(Clone, Copy)]
 pub struct PartAnswer {
     pub refusal: u64,
     pub start: u64,

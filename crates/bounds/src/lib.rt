@@ -1,3 +1,4 @@
+#![tactic(auto)]
 // The tables that tell which events are worth joining to a chain: where each state's and each length's events stand, and the least weights of an
 // event of each length and of a chain of each number of steps. They are kept in the work area; specs/Model/Places.antt says where.
 ghost use Rattle.std.specs.Prelude.{◌≡◌, ◌+◌, ◌-◌, ◌≤◌, ◌<◌, min, max, length, set, cond, eqb};
@@ -41,7 +42,7 @@ const TOO_HEAVY: u64 = 255;
 
 // A chain begun: the length of its first event (0 before there is one), the steps and the weight that are left to it, and the inputs so far in two
 // halves, low half first.
-#[derive(Drop)]
+#[derive(Clone, Copy)]
 pub struct Chain {
     pub first: u64,
     pub steps: u64,

@@ -1,3 +1,4 @@
+#![tactic(auto)]
 // A call over lent tables: its questions are asked once, its job is done, and where it is refused late all that is lent is cleared.
 // What is `pub` here is for the crates above; docs/DECISIONS.md lists it as internal.
 ghost use Rattle.std.specs.Prelude.{◌≡◌, [], ◌∷◌, length};

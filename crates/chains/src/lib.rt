@@ -1,3 +1,4 @@
+#![tactic(auto)]
 // Chains of events of one state, joined one after another until their lengths sum to the steps of a word (document 01); the rotations of each chain,
 // or the chain as it is where it is not turned, are appended to the path table. The tables of `bounds`, kept in the work area, tell which events are
 // worth joining.

@@ -1,3 +1,4 @@
+#![tactic(auto)]
 // The choice: every candidate that is offered is compared with the best so far, weight by weight, and drops out at the first weight where another counts fewer.
 // Weights go by their entries in the lists of counts: entry j is of weight j + 1. Candidates go by their numbers, with a flag for each.
 // What is `pub` here is for the crate above; docs/DECISIONS.md lists it as internal.
@@ -10,7 +11,7 @@ use poly::word::power;
 use undetected::{count_from, count_up_to};
 
 // The first of the candidates with the best counts, and how many have them.
-#[derive(Drop)]
+#[derive(Clone, Copy)]
 pub struct Outcome {
     pub polynomial: u64,
     pub shared: u64,

@@ -11,7 +11,7 @@ use order::record::OrderRecord;
 use poly::word::{Word, power, shift_down};
 
 // `memory` is document 01's v; bit 0 of `rest` is the next input.
-#[derive(Drop)]
+#[derive(Clone, Copy)]
 pub struct Window {
     pub memory: u64,
     pub state: u8,

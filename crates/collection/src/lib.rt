@@ -1,3 +1,4 @@
+#![tactic(auto)]
 // The error events of a code, collected into a lent table in their order: for each state and length a walk backwards from the state, cut where the
 // least weights of `needed` show that no event can come of it.
 ghost use Rattle.std.specs.Prelude.{◌≡◌, ◌+◌, ◌*◌, ◌/◌, ◌^◌, ◌<◌, ◌≤◌, length, set};
@@ -20,7 +21,7 @@ use order::record::OrderRecord;
 // ---- the walk backwards
 
 // A node: the state, the steps still to be taken back, and the weight and the inputs of the steps that follow.
-#[derive(Drop)]
+#[derive(Clone, Copy)]
 pub struct Node {
     pub state: u64,
     pub left: u64,

@@ -1,3 +1,4 @@
+#![tactic(auto)]
 // The check remainder: appended to a message, stripped from a word, tested. Each call asks questions 5 (from 1), 6, 11 and 12 of document 01.
 ghost use Rattle.std.specs.Prelude.{◌≡◌};
 ghost use Rattle.poly.specs.Word.{number};
@@ -9,20 +10,20 @@ use order::questions::{LONGEST_WORD, degree_fits, from_to, is_check_polynomial};
 use poly::register::remainder_of;
 use poly::word::{Word, is_below_lem, make, shift_down, shift_up, xor};
 
-#[derive(Drop)]
+#[derive(Clone, Copy)]
 pub enum Appended {
     Whole(Word),
     Refused(u64),
 }
 
-#[derive(Drop)]
+#[derive(Clone, Copy)]
 pub enum Stripped {
     Message(Word),
     Damaged(u64),
     Refused(u64),
 }
 
-#[derive(Drop)]
+#[derive(Clone, Copy)]
 pub enum Tested {
     Divisible,
     Indivisible,

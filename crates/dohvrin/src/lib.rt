@@ -1,3 +1,4 @@
+#![tactic(auto)]
 // The calls for hosts in C and Rust: an order, numbers and slices in, structs out. include/dohvrin.h says what each takes and leaves.
 ghost use Rattle.std.specs.Prelude.{◌≡◌, ◌+◌, ◌*◌, ◌^◌};
 ghost use Rattle.order.specs.Order.{read};

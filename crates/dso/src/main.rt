@@ -1,3 +1,4 @@
+#![tactic(auto)]
 // Reads all of standard input as one order record, and prints its row or its refusal.
 use print::print;
 

@@ -1,3 +1,4 @@
+#![tactic(auto)]
 // The entries of the event table: one is read, one is stored, all are cleared, and those of few steps are counted.
 ghost use Rattle.std.specs.Prelude.{◌≡◌, ◌+◌, ◌≤◌, ◌<◌, ◌^◌, length, get_or, set, replicate};
 ghost use Rattle.events.specs.Events.{no_event};
@@ -5,7 +6,7 @@ ghost use Rattle.events.specs.Model.Counting.{count_within, one_more};
 
 // An entry of the event table: document 01's record of state, length, weight and the input in two halves, low half first.
 #[repr(C)]
-#[derive(Drop)]
+#[derive(Clone, Copy)]
 pub struct Event {
     pub state: u64,
     pub length: u64,

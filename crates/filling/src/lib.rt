@@ -1,3 +1,4 @@
+#![tactic(auto)]
 // The path table filled from a collected event table, weight by weight: the events are chained, and each weight's words are sorted and counted.
 ghost use Rattle.std.specs.Prelude.{◌≡◌, ◌+◌, ◌-◌, ◌/◌, ◌≤◌, ◌<◌, length};
 ghost use Rattle.order.specs.Answers.{order_in};

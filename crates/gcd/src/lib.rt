@@ -1,3 +1,4 @@
+#![tactic(auto)]
 // Do polynomials share a factor? Their greatest common divisor tells, by Euclid's scheme on numbers.
 // What is `pub` here is for the crates above; docs/DECISIONS.md lists it as internal.
 ghost use Rattle.std.specs.Prelude.{◌≡◌, ◌<◌};

@@ -1,3 +1,4 @@
+#![tactic(auto)]
 // The jobs of the calls over lent tables, for orders that were accepted: events are collected, paths listed, and the best check polynomial is chosen or the
 // undetected counts of one are made. What is `pub` here is for the crates above; docs/DECISIONS.md lists it as internal.
 ghost use Rattle.std.specs.Prelude.{◌≡◌, ◌-◌, length, replicate};
@@ -22,7 +23,7 @@ use row::{Answered, answer, refuse};
 
 // How far a call goes: events are collected; paths are listed too; then the best polynomial is chosen, by the row's length alone or for shorter ones too, or
 // the words that one divides are counted.
-#[derive(Drop)]
+#[derive(Clone, Copy)]
 pub enum Job {
     Collect,
     List,
@@ -33,7 +34,7 @@ pub enum Job {
 
 // A call: events are collected for the order, of which it takes so much; the row is for words of `bits` bits; the job says how far it goes, and may be for
 // shorter lengths too.
-#[derive(Drop)]
+#[derive(Clone, Copy)]
 pub struct Plan {
     pub order: OrderRecord,
     pub takes: Takes,

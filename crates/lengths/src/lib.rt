@@ -1,3 +1,4 @@
+#![tactic(auto)]
 // The lengths, besides that of the row, that a polynomial is chosen for: their paths are listed, the shortest length first, and the first undetected weights
 // of all candidates are noted. What is `pub` here is for the crates above; docs/DECISIONS.md lists it as internal.
 ghost use Rattle.std.specs.Prelude.{◌≡◌, ◌+◌, ◌-◌, ◌<◌, ◌≤◌};
@@ -14,7 +15,7 @@ use order::questions::counted_weights;
 use order::record::{OrderRecord, with_length};
 
 // Lengths, the longest first: so many of these numbers.
-#[derive(Drop)]
+#[derive(Clone, Copy)]
 pub struct Shorter {
     pub count: usize,
     pub lengths: [u64; 7],
@@ -26,7 +27,7 @@ pub const NONE_SHORTER: Shorter = Shorter {
 };
 
 // What is noted: 14 where the paths of a length do not fit; else 0, and the first weights.
-#[derive(Drop)]
+#[derive(Clone, Copy)]
 pub struct Noted {
     pub refusal: u64,
     pub firsts: Firsts,

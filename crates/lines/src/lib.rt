@@ -1,3 +1,4 @@
+#![tactic(auto)]
 // The lines of a text, as bytes in a lent buffer.
 // What is `pub` here is for the crate above; docs/DECISIONS.md lists it as internal.
 ghost use mathlib.Core.List.{map, flat_map};

@@ -1,3 +1,4 @@
+#![tactic(auto)]
 // Who is left after each of several lengths: the first undetected weights of every candidate at the lengths listed so far are one number in base 128, and
 // those whose number is largest stay.
 // What is `pub` here is for the crate above; docs/DECISIONS.md lists it as internal.
@@ -10,7 +11,7 @@ use poly::word::power;
 use undetected::first_weight;
 
 // The number of each candidate; `scale` is what the next weight is worth.
-#[derive(Drop)]
+#[derive(Clone, Copy)]
 pub struct Firsts {
     pub scale: u64,
     pub ranks: [u64; 2048],

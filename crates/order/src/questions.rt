@@ -16,7 +16,7 @@ pub const HIGHEST_VERSION: u64 = 2;
 pub const LONGEST_WORD: u64 = 128;
 
 // What a call takes of an order, and so asks about: versions and lengths up to these, and whether the degree and the threshold.
-#[derive(Drop)]
+#[derive(Clone, Copy)]
 pub struct Takes {
     pub versions: u64,
     pub longest: u64,

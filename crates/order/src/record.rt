@@ -12,7 +12,7 @@ use super::questions::{
 
 // An order as a record gives it: the kind of link (1 tail_biting, 2 terminated); n generators, the first first, the others 0.
 #[repr(C)]
-#[derive(Drop)]
+#[derive(Clone, Copy)]
 pub struct OrderRecord {
     pub version: u64,
     pub n: u64,
@@ -25,7 +25,7 @@ pub struct OrderRecord {
 
 // What reading a record answers: the number of the refusal, or 0 and the order.
 #[repr(C)]
-#[derive(Drop)]
+#[derive(Clone, Copy)]
 pub struct Reading {
     pub refusal: u64,
     pub order: OrderRecord,

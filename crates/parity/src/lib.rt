@@ -1,3 +1,4 @@
+#![tactic(auto)]
 // The parity checks of a polynomial. They are made once and then tell of any number of words whether the polynomial divides them, most often by the
 // first row or two; a division would take a step for each bit.
 ghost use Rattle.std.specs.Prelude.{◌≡◌, ◌+◌, ◌*◌, ◌^◌, ◌<◌, ◌≤◌};

@@ -7,7 +7,7 @@ ghost use Rattle.poly.specs.Model.Asked.{ToDivide, ToMultiply, ToTake};
 use super::word::{Word, bit_at};
 
 // Division by a polynomial of degree at most 12: the polynomial, and the remainder so far.
-#[derive(Drop)]
+#[derive(Clone, Copy)]
 struct Register {
     degree: u64,
     polynomial: u64,

@@ -5,7 +5,7 @@ ghost use Rattle.poly.specs.Word.{number};
 ghost use Rattle.poly.specs.Model.Asked.{ToShiftUp};
 
 #[repr(C)]
-#[derive(Drop)]
+#[derive(Clone, Copy)]
 pub struct Word {
     pub low: u64,
     pub high: u64,

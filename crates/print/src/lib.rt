@@ -1,3 +1,4 @@
+#![tactic(auto)]
 // What `dso` prints: from the bytes of one record to the bytes of its row, or of its refusal.
 // An order that was read is asked nothing again: the search is run, and its answer is laid out.
 ghost use Rattle.std.specs.Prelude.{◌≡◌, ◌≤◌, length, replicate};

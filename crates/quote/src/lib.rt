@@ -1,3 +1,4 @@
+#![tactic(auto)]
 // A shorter length quoted from the events of a longer one: they are collected for the order's own length, and the row is made for the shorter one from
 // those that fit it.
 ghost use Rattle.std.specs.Prelude.{◌≡◌};

@@ -1,3 +1,4 @@
+#![tactic(auto)]
 // The rotations of a word, appended to a path table; and the inputs of an event, joined to those before them.
 ghost use Rattle.std.specs.Prelude.{◌≡◌, ◌+◌, ◌*◌, ◌^◌, ◌≤◌, length};
 ghost use Rattle.poly.specs.Word.{number};

@@ -1,3 +1,4 @@
+#![tactic(auto)]
 // What a call over lent tables answers: the numbers of a row, or a refusal.
 // The functions here are for the crates above; docs/DECISIONS.md lists them as internal.
 ghost use Rattle.std.specs.Prelude.{◌≡◌};
@@ -5,7 +6,7 @@ ghost use Rattle.row.specs.Answered.{refusal_of};
 
 // How many events and paths there are, the check polynomial, and how many share its counts, it among them. 0 for what a call does not tell.
 #[repr(C)]
-#[derive(Drop)]
+#[derive(Clone, Copy)]
 pub struct Row {
     pub events: u64,
     pub paths: u64,
@@ -14,7 +15,7 @@ pub struct Row {
 }
 
 // A row's numbers, or the number of the question that says no.
-#[derive(Drop)]
+#[derive(Clone, Copy)]
 pub enum Answered {
     Row(Row),
     Refused(u64),

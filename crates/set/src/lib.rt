@@ -1,3 +1,4 @@
+#![tactic(auto)]
 // One polynomial for a set of lengths: events are collected for the longest, and of the candidates those are left, length by length, whose first undetected
 // weight is largest.
 ghost use Rattle.std.specs.Prelude.{◌≡◌, ◌&&◌, ◌-◌, ◌≤◌, length};

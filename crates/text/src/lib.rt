@@ -1,3 +1,4 @@
+#![tactic(auto)]
 // What is printed: the row of an order, or a refusal, as bytes in a lent buffer.
 ghost use Rattle.std.specs.Prelude.{◌≡◌, ◌≤◌, length};
 ghost use Rattle.order.specs.Questions.{first_no};
@@ -16,7 +17,7 @@ use order::record::OrderRecord;
 use row::{Answered, Row};
 
 // How many bytes the text has, or the number of the question that says no.
-#[derive(Drop)]
+#[derive(Clone, Copy)]
 pub enum Written {
     Bytes(u64),
     Refused(u64),

@@ -1,3 +1,4 @@
+#![tactic(auto)]
 // How many listed words of each weight a polynomial divides, and the first weight of which it divides one.
 // What is `pub` here is for the crates above; docs/DECISIONS.md lists it as internal.
 ghost use Rattle.std.specs.Prelude.{◌≡◌};
