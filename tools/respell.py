@@ -78,7 +78,7 @@ APART = {
     "found-from": "found_from_lem",
     "has-bit": "has_bit_lem",
     "in-range": "is_in_range",
-    "is_below": "is_below_lem",
+    "is_below": "is_below_lem",  # of sort; a function of poly has the old name and keeps it
     "last-state": "last_state_lem",
     "no-shared-factor": "shares_no_factor",
     "plain-counts": "plain_counts_are",

@@ -8,7 +8,7 @@ ghost use Rattle.crc.specs.Answers.{appended_as, stripped_as, tested_as};
 
 use order::questions::{LONGEST_WORD, degree_fits, from_to, is_check_polynomial};
 use poly::register::remainder_of;
-use poly::word::{Word, is_below_lem, make, shift_down, shift_up, xor};
+use poly::word::{Word, is_below, make, shift_down, shift_up, xor};
 
 #[derive(Clone, Copy)]
 pub enum Appended {
@@ -54,7 +54,7 @@ pub fn append(bits: u64, m: u64, polynomial: u64, message: Word) -> Appended
     if refusal != 0 {
         return Appended::Refused(refusal);
     }
-    if !is_below_lem(message, bits - m) {
+    if !is_below(message, bits - m) {
         return Appended::Refused(12);
     }
     let shifted = shift_up(message, m);
@@ -70,7 +70,7 @@ pub fn strip(bits: u64, m: u64, polynomial: u64, word: Word) -> Stripped
     if refusal != 0 {
         return Stripped::Refused(refusal);
     }
-    if !is_below_lem(word, bits) {
+    if !is_below(word, bits) {
         return Stripped::Refused(12);
     }
     let r = remainder_of(word, bits, m, polynomial);
@@ -88,7 +88,7 @@ pub fn test(bits: u64, m: u64, polynomial: u64, word: Word) -> Tested
     if refusal != 0 {
         return Tested::Refused(refusal);
     }
-    if !is_below_lem(word, bits) {
+    if !is_below(word, bits) {
         return Tested::Refused(12);
     }
     let r = remainder_of(word, bits, m, polynomial);

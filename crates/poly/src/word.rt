@@ -48,7 +48,7 @@ pub fn power(k: u64) -> u64
 }
 
 // Whether the word is below 2^k.
-pub fn is_below_lem(w: Word, k: u64) -> bool
+pub fn is_below(w: Word, k: u64) -> bool
     ensures { result ≡ ltb (number w) (2 ^ k) }
 {
     if k < 64 {

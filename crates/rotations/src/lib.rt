@@ -8,7 +8,7 @@ ghost use Rattle.paths.specs.Paths.{path_room};
 ghost use Rattle.paths.specs.Model.Joining.{turns};
 ghost use Rattle.rotations.specs.Model.Put.{put, puts, ToPushTurns, ToJoinInput};
 
-use poly::word::{Word, is_below_lem};
+use poly::word::{Word, is_below};
 
 // The word is stored at place `at` where that is in the table, and counted until the table is known to be too small.
 pub fn push(table: &mut [u64], at: usize, w: Word) -> usize
@@ -51,7 +51,7 @@ pub fn push_turns(table: &mut [u64], at: usize, bits: u64, first: u64, w: Word) 
     requires { ToPushTurns (length table.old) at bits first (number w) }
     ensures { (table.new, result) ≡ puts (turns bits first (number w)) (table.old, at) }
 {
-    if is_below_lem(w, 0) {
+    if is_below(w, 0) {
         return at;
     }
     let mut next = at;

@@ -58,7 +58,7 @@ unfolding order_in
 returns-3 c =
     let asked = c.before.before.before.before.before in
     encode-refused-late _ _ asked.before.ask-order.ensures _ _ asked.if1.false (roomy c.before.before)
-    (sym c.before.is_below_lem.ensures ∙ not-true _ c.if3.true)
+    (sym c.before.is_below.ensures ∙ not-true _ c.if3.true)
 
 encode-in-requires : tie.Need-encode-in-requires
 unfolding order_in
@@ -67,7 +67,7 @@ encode-in-requires c κs =
     record {
       word = record {
         code = code-accepted _ _ asked.before.ask-order.ensures asked.if1.false;
-        fits = ltb-true _ _ (sym c.before.before.is_below_lem.ensures ∙ not-false _ c.before.if3.false);
+        fits = ltb-true _ _ (sym c.before.before.is_below.ensures ∙ not-false _ c.before.if3.false);
       };
       room = roomy c.before.before.before;
     }
@@ -82,7 +82,7 @@ returns-4 c =
     let asked = below.before.before.before.before.before in
     ap (λ (l : List ℕ). (accepted tt, l)) c.before.before.encode-in.ensures
     ∙ encode-answered _ _ asked.before.ask-order.ensures _ _ asked.if1.false (roomy below.before.before)
-    (sym below.before.is_below_lem.ensures ∙ not-false _ below.if3.false)
+    (sym below.before.is_below.ensures ∙ not-false _ below.if3.false)
 
 pub encode-spec : {M : Type 1} → statement M
 encode-spec =

@@ -22,14 +22,14 @@ unfolding order_in
 returns-2 c =
     let asked = c.before.before in
     weigh-refused-late _ _ asked.before.ask-order.ensures _ asked.if1.false
-    (sym c.before.is_below_lem.ensures ∙ not-true _ c.if2.true)
+    (sym c.before.is_below.ensures ∙ not-true _ c.if2.true)
 
 weight-in-requires : tie.Need-weight-in-requires
 unfolding order_in
 weight-in-requires c κs =
     record {
       code = code-accepted _ _ c.before.before.before.ask-order.ensures c.before.before.if1.false;
-      fits = ltb-true _ _ (sym c.before.is_below_lem.ensures ∙ not-false _ c.if2.false);
+      fits = ltb-true _ _ (sym c.before.is_below.ensures ∙ not-false _ c.if2.false);
     }
 
 returns-3 : tie.Need-returns-3
@@ -38,7 +38,7 @@ returns-3 c =
     let asked = c.before.before.before in
     ap accepted c.weight-in.ensures
     ∙ weigh-answered _ _ asked.before.ask-order.ensures _ asked.if1.false
-    (sym c.before.before.is_below_lem.ensures ∙ not-false _ c.before.if2.false)
+    (sym c.before.before.is_below.ensures ∙ not-false _ c.before.if2.false)
 
 pub weigh-spec : {M : Type 1} → statement M
 weigh-spec =

@@ -26,7 +26,7 @@ is-below-requires c κs = search rules
 
 returns-2 : tie.Need-returns-2
 unfolding append_call
-returns-2 c = refused-late _ _ _ _ _ _ _ c.before.before.before.ask-polynomial.ensures c.before.before.if1.false (sym c.before.is_below_lem.ensures ∙ not-true _ c.if2.true)
+returns-2 c = refused-late _ _ _ _ _ _ _ c.before.before.before.ask-polynomial.ensures c.before.before.if1.false (sym c.before.is_below.ensures ∙ not-true _ c.if2.true)
 
 shift-up-requires : tie.Need-shift-up-requires
 shift-up-requires c κs =
@@ -38,7 +38,7 @@ shift-up-requires c κs =
       below_64 = omega arith;
       fits =
           shifted_fits a.bits a.m _ g.at_most_128 g.degree-below
-          (ltb-true _ _ (sym c.before.is_below_lem.ensures ∙ not-false _ c.if2.false));
+          (ltb-true _ _ (sym c.before.is_below.ensures ∙ not-false _ c.if2.false));
     }
 
 remainder-of-requires : tie.Need-remainder-of-requires
@@ -47,7 +47,7 @@ remainder-of-requires c κs =
     let a = past.before.before.before.before.args in
     let none = sym past.before.before.before.ask-polynomial.ensures ∙ past.before.before.if1.false in
     let g = accepted_polynomial a.bits a.m a.polynomial none in
-    let below = ltb-true _ _ (sym past.before.is_below_lem.ensures ∙ not-false _ past.if2.false) in
+    let below = ltb-true _ _ (sym past.before.is_below.ensures ∙ not-false _ past.if2.false) in
     record {
       modulus = record { at_most_12 = g.at_most_12; degree = g.degree };
       at_most_128 = g.at_most_128;
@@ -65,7 +65,7 @@ unfolding append_call
 returns-3 c =
     let past = c.before.before.before.before in
     ap accepted (append_parts _ _ _ _ _ _ _ c.before.before.before.shift-up.ensures c.before.before.remainder_of.ensures c.before.make.ensures c.xor.ensures)
-    ∙ answered _ _ _ _ _ _ _ past.before.before.before.ask-polynomial.ensures past.before.before.if1.false (sym past.before.is_below_lem.ensures ∙ not-false _ past.if2.false)
+    ∙ answered _ _ _ _ _ _ _ past.before.before.before.ask-polynomial.ensures past.before.before.if1.false (sym past.before.is_below.ensures ∙ not-false _ past.if2.false)
 
 pub append-spec : {M : Type 1} → statement M
 append-spec =

@@ -22,7 +22,7 @@ is-below-requires c κs = search rules
 
 returns-2 : tie.Need-returns-2
 unfolding strip_call
-returns-2 c = refused-late _ _ _ _ _ _ _ c.before.before.before.ask-polynomial.ensures c.before.before.if1.false (sym c.before.is_below_lem.ensures ∙ not-true _ c.if2.true)
+returns-2 c = refused-late _ _ _ _ _ _ _ c.before.before.before.ask-polynomial.ensures c.before.before.if1.false (sym c.before.is_below.ensures ∙ not-true _ c.if2.true)
 
 remainder-of-requires : tie.Need-remainder-of-requires
 remainder-of-requires c κs =
@@ -32,7 +32,7 @@ remainder-of-requires c κs =
     record {
       modulus = record { at_most_12 = g.at_most_12; degree = g.degree };
       at_most_128 = g.at_most_128;
-      fits = ltb-true _ _ (sym c.before.is_below_lem.ensures ∙ not-false _ c.if2.false);
+      fits = ltb-true _ _ (sym c.before.is_below.ensures ∙ not-false _ c.if2.false);
     }
 
 returns-3 : tie.Need-returns-3
@@ -40,7 +40,7 @@ unfolding strip_call
 returns-3 c =
     let past = c.before.before in
     ap accepted (sym (strip_nonzero _ _ _ _ c.before.remainder_of.ensures c.if3.true))
-    ∙ answered _ _ _ _ _ _ _ past.before.before.before.ask-polynomial.ensures past.before.before.if1.false (sym past.before.is_below_lem.ensures ∙ not-false _ past.if2.false)
+    ∙ answered _ _ _ _ _ _ _ past.before.before.before.ask-polynomial.ensures past.before.before.if1.false (sym past.before.is_below.ensures ∙ not-false _ past.if2.false)
 
 shift-down-requires : tie.Need-shift-down-requires
 shift-down-requires c κs = tt
@@ -50,7 +50,7 @@ unfolding strip_call
 returns-4 c =
     let past = c.before.before.before in
     ap accepted (ap message c.shift-down.ensures ∙ sym (strip_zero _ _ _ _ c.before.before.remainder_of.ensures c.before.if3.false))
-    ∙ answered _ _ _ _ _ _ _ past.before.before.before.ask-polynomial.ensures past.before.before.if1.false (sym past.before.is_below_lem.ensures ∙ not-false _ past.if2.false)
+    ∙ answered _ _ _ _ _ _ _ past.before.before.before.ask-polynomial.ensures past.before.before.if1.false (sym past.before.is_below.ensures ∙ not-false _ past.if2.false)
 
 pub strip-spec : {M : Type 1} → statement M
 strip-spec =

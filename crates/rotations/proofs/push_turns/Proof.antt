@@ -34,7 +34,7 @@ is-below-requires c κs = tt
 returns : tie.Need-returns invariant-loop decreases-loop
 returns c =
     let a = c.before.before.before.args in
-    turns_zero a.bits a.first (number a.w) (a.table.now, a.at) (is_zero _ _ c.before.is_below_lem.ensures c.if1.true)
+    turns_zero a.bits a.first (number a.w) (a.table.now, a.at) (is_zero _ _ c.before.is_below.ensures c.if1.true)
 
 loop-holds : tie.Need-loop-init invariant-loop decreases-loop
 loop-holds c =
@@ -70,7 +70,7 @@ appended c u turned =
     let p = (start c).requires in
     let l = (top c).loop in
     let e = c.before.before.push.ensures in
-    let some : 0 < number (start c).args.w = is_some _ _ some_word.before.is_below_lem.ensures some_word.if1.left in
+    let some : 0 < number (start c).args.w = is_some _ _ some_word.before.is_below.ensures some_word.if1.left in
     record {
       within = omega arith;
       same_size = length_after _ _ _ _ _ e ∙ l.inv.same_size;

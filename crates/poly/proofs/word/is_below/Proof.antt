@@ -3,8 +3,8 @@
 use native.Mathlib.Omega.{arith}
 use Rattle.poly.proofs.Shifts.{below_low, not_below_low, below_high, below_all}
 use borrow.Author.Rules.{rules}
-use Rattle.poly.proofs.word.is_below_lem.Statement.{statement}
-use Rattle.poly.proofs.word.is_below_lem.Tie as tie
+use Rattle.poly.proofs.word.is_below.Statement.{statement}
+use Rattle.poly.proofs.word.is_below.Tie as tie
 
 power-requires : tie.Need-power-requires
 power-requires c κs = search rules
