@@ -1,0 +1,44 @@
+-- The outer invariant: the first k candidates have been compared. The inner: candidate k and the best agree before entry j, whose words
+-- begin at place `at`.
+use borrow.Author.Tests.{not-true, not-false}
+use native.Mathlib.Omega.{arith}
+use mathlib.Core.Path.{◌≡◌, refl, sym, ap₂, ◌∙◌}
+use mathlib.Core.Bool.{Bool, true, false}
+use mathlib.Core.List.{List}
+use Prim.Native.Nat.{ℕ, ◌+◌, ◌-◌, ◌*◌, ◌^◌, ◌≤◌, ◌<◌}
+use lib.ListN.{length, get_or}
+use Rattle.parity.specs.Model.Parity.{Divisor}
+use Rattle.paths.specs.Part.{paths_to}
+use Rattle.paths.proofs.Parts.{sum_none}
+use Rattle.undetected.specs.Model.Steps.{divided_counts}
+use Rattle.undetected.proofs.Counted.{before-next, before-end}
+use Rattle.choice.proofs.Candidates.{few_candidates, candidate_divisor}
+use Rattle.choice.proofs.Weighed.{Agree, Verdict, verdict}
+use Rattle.choice.proofs.Comparing.{best_of, best-length, Met, met_same, met-limit, met-length}
+use Rattle.choice.proofs.Comparing.{first-offered, met-begin, met-down, met-worse, met-better, met-level, met-end}
+use Rattle.choice.proofs.compare.Given as goal
+
+record Level (m entries : ℕ) (table plain undetected₀ undetected : List ℕ) (alive₀ alive : List Bool) (k₀ k p at j : ℕ) : Type 0 where
+  same-list : undetected ≡ undetected₀
+  same_flags : alive ≡ alive₀
+  same-candidate : k ≡ k₀
+  within : j ≤ entries
+  placed : at ≡ paths_to plain j
+  agree : Agree j (divided_counts m table plain entries p) undetected
+
+abbrev at : Counted → At
+at c = c
+
+abbrev pub invariant-loop-j : goal.invariant-loop-j
+invariant-loop-j l =
+    Level l.m l.entries l.table l.plain l.initial.undetected l.undetected l.initial.alive l.alive l.initial.k l.k l.p l.at l.j
+
+abbrev pub decreases-loop-j : goal.decreases-loop-j
+decreases-loop-j l = l.entries - l.j
+
+abbrev pub invariant-candidates : goal.invariant-candidates
+invariant-candidates l =
+    Met l.m l.entries l.n l.initial.alive l.first l.table l.plain l.initial.undetected l.undetected l.alive l.k
+
+abbrev pub decreases-candidates : goal.decreases-candidates
+decreases-candidates l = l.n - l.k

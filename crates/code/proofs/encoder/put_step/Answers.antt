@@ -1,0 +1,33 @@
+use borrow.Author.Rules.{rules}
+use mathlib.Core.Path.{◌≡◌, refl, ap, ◌∙◌}
+use mathlib.Core.List.{List, map}
+use Prim.Native.Nat.{ℕ, ◌+◌, ◌-◌, ◌≤◌, zero-le}
+use native.Mathlib.Omega.{arith}
+use lib.ListN.{length, take, set, length-set}
+use lib.Seq.{sets}
+use Rattle.lists.proofs.Stores.{sets-map-more, sets-map-all}
+use Rattle.code.specs.Trellis.{tapped}
+use Rattle.code.proofs.encoder.put_step.Goals as goal
+
+pub loop-i-init : goal.loop-i-init
+loop-i-init c = record { within = zero-le; same_size = refl; stored = refl }
+
+pub loop-i-preserved : goal.loop-i-preserved
+loop-i-preserved c =
+    let l = c.loop-i in
+    let a = c.args in
+    let more = sets-map-more (tapped a.inputs) a.generators.now 0 a.output.now a.at l.i _ (omega arith) in
+    record {
+      within = omega arith;
+      same_size = length-set l.output (a.at + l.i) _ ∙ l.invariant.same_size;
+      stored = ap (λ x. set x (a.at + l.i) c.parity.result) l.invariant.stored ∙ more c.parity.ensures;
+    }
+
+pub shape_of-output : goal.shape_of-output
+shape_of-output c = c.loop-i.invariant.same_size
+
+pub returns : goal.returns
+returns c =
+    let l = c.loop-i in
+    let a = c.args in
+    l.invariant.stored ∙ sets-map-all (tapped a.inputs) a.generators.now 0 a.output.now a.at l.i (omega arith)

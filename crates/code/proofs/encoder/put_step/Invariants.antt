@@ -1,0 +1,22 @@
+-- The invariant: the first i generators have been stored.
+use borrow.Author.Rules.{rules}
+use mathlib.Core.Path.{◌≡◌, refl, ap, ◌∙◌}
+use mathlib.Core.List.{List, map}
+use Prim.Native.Nat.{ℕ, ◌+◌, ◌-◌, ◌≤◌, zero-le}
+use native.Mathlib.Omega.{arith}
+use lib.ListN.{length, take, set, length-set}
+use lib.Seq.{sets}
+use Rattle.lists.proofs.Stores.{sets-map-more, sets-map-all}
+use Rattle.code.specs.Trellis.{tapped}
+use Rattle.code.proofs.encoder.put_step.Given as goal
+
+record Storing (output₀ : List ℕ) (at : ℕ) (gs : List ℕ) (inputs : ℕ) (output : List ℕ) (i : ℕ) : Type 0 where
+  within : i ≤ length gs
+  same_size : length output ≡ length output₀
+  stored : output ≡ sets output₀ at (map (tapped inputs) (take i gs))
+
+abbrev pub invariant-loop-i : goal.invariant-loop-i
+invariant-loop-i l = Storing l.initial.output l.at l.generators l.inputs l.output l.i
+
+abbrev pub decreases-loop-i : goal.decreases-loop-i
+decreases-loop-i l = length l.generators - l.i

@@ -1,0 +1,18 @@
+-- By the kind.
+use mathlib.Core.Path.{sym, ◌∙◌}
+use native.Mathlib.Omega.{arith}
+use Rattle.order.specs.Answers.{order_in}
+use Rattle.code.proofs.Links.{steps-terminated, steps-tail-biting}
+use Rattle.code.proofs.link.steps_of.Goals as goal
+
+pub overflow_add-result : goal.overflow_add-result
+unfolding order_in
+overflow_add-result c = let a = c.requires in omega (arith, a.small_memory, a.at_most_128)
+
+pub returns-then-is_terminated : goal.returns-then-is_terminated
+unfolding order_in
+returns-then-is_terminated c = sym (steps-terminated _ (sym c.is_terminated.ensures ∙ c.if-is_terminated.true))
+
+pub returns : goal.returns
+unfolding order_in
+returns c = sym (steps-tail-biting _ (sym c.is_terminated.ensures ∙ c.if-is_terminated.false))

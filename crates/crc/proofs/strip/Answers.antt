@@ -1,0 +1,42 @@
+-- Refused by one of the questions, or the remainder decides.
+use mathlib.Core.Path.{sym, ap, ◌∙◌}
+use borrow.Author.Tests.{not-true, not-false, ltb-true}
+use Rattle.order.specs.Answer.{accepted}
+use Rattle.crc.specs.Check.{message, strip_call}
+use Rattle.crc.proofs.Calls.{accepted_polynomial, refused-early, refused-late, answered}
+use Rattle.crc.proofs.Laws.{strip_zero, strip_nonzero}
+use borrow.Author.Rules.{rules}
+use Rattle.crc.proofs.strip.Goals as goal
+
+pub returns-then-refusal-ne0 : goal.returns-then-refusal-ne0
+unfolding strip_call
+returns-then-refusal-ne0 c = refused-early _ _ _ _ _ _ _ c.ask_polynomial-refusal.ensures c.if-refusal-ne0.true
+
+pub returns-then-not-is_below : goal.returns-then-not-is_below
+unfolding strip_call
+returns-then-not-is_below c = refused-late _ _ _ _ _ _ _ c.ask_polynomial-refusal.ensures c.if-refusal-ne0.false (sym c.is_below.ensures ∙ not-true _ c.if-not-is_below.true)
+
+pub remainder_of-r-requires : goal.remainder_of-r-requires
+remainder_of-r-requires c =
+    let a = c.args in
+    let none = sym c.ask_polynomial-refusal.ensures ∙ c.if-refusal-ne0.false in
+    let g = accepted_polynomial a.bits a.m a.polynomial none in
+    record {
+      modulus = record { at_most_12 = g.at_most_12; degree = g.degree };
+      at_most_128 = g.at_most_128;
+      fits = ltb-true _ _ (sym c.is_below.ensures ∙ not-false _ c.if-not-is_below.false);
+    }
+
+pub returns-then-r-ne0 : goal.returns-then-r-ne0
+unfolding strip_call
+returns-then-r-ne0 c =
+    let past = c in
+    ap accepted (sym (strip_nonzero _ _ _ _ c.remainder_of-r.ensures c.if-r-ne0.true))
+    ∙ answered _ _ _ _ _ _ _ past.ask_polynomial-refusal.ensures past.if-refusal-ne0.false (sym past.is_below.ensures ∙ not-false _ past.if-not-is_below.false)
+
+pub returns : goal.returns
+unfolding strip_call
+returns c =
+    let past = c in
+    ap accepted (ap message c.shift_down.ensures ∙ sym (strip_zero _ _ _ _ c.remainder_of-r.ensures c.if-r-ne0.false))
+    ∙ answered _ _ _ _ _ _ _ past.ask_polynomial-refusal.ensures past.if-refusal-ne0.false (sym past.is_below.ensures ∙ not-false _ past.if-not-is_below.false)

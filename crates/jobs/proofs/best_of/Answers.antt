@@ -1,0 +1,6 @@
+-- Chosen over a list of zeros.
+use borrow.Author.Rules.{rules}
+use Rattle.jobs.proofs.best_of.Goals as goal
+
+pub returns : goal.returns
+returns c = rw c.clear_words.ensures at c.choose.ensures

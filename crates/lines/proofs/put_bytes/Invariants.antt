@@ -1,0 +1,23 @@
+-- The invariant: the first i bytes have been stored.
+use Prim.Native.Nat.{ℕ, ◌+◌, ◌-◌, ◌≤◌, zero-le}
+use native.Mathlib.Nat.{add-zero, add_assoc, le_refl}
+use native.Mathlib.Numerals.{add-one}
+use native.Mathlib.Omega.{arith}
+use mathlib.Core.Path.{◌≡◌, refl, sym, ap, ◌∙◌}
+use mathlib.Core.List.{List}
+use lib.ListN.{length, take, length-set}
+use lib.Seq.{take-suc, take_all}
+use Rattle.lines.specs.Model.Steps.{Put}
+use Rattle.lines.proofs.Puts.{put_none, put_byte, put_as, put_to, put_most, joined}
+use Rattle.lines.proofs.put_bytes.Given as goal
+
+record Copying (buffer₀ : List ℕ) (at : ℕ) (bytes buffer : List ℕ) (i : ℕ) : Type 0 where
+  within : i ≤ length bytes
+  same_size : length buffer ≡ length buffer₀
+  so_far : Put i buffer₀ at (take i bytes) buffer (at + i)
+
+abbrev pub invariant-loop-i : goal.invariant-loop-i
+invariant-loop-i l = Copying l.initial.buffer l.at l.bytes l.buffer l.i
+
+abbrev pub decreases-loop-i : goal.decreases-loop-i
+decreases-loop-i l = length l.bytes - l.i

@@ -1,0 +1,36 @@
+-- A turn of as many steps as a word has, with rows of the order's states.
+use mathlib.Core.Path.{ap₂, ◌∙◌}
+use Prim.Native.Nat.{ℕ, ◌^◌, ◌≤◌}
+use native.Mathlib.Omega.{arith}
+use lib.Pow.{pow_mono}
+use borrow.Author.Rules.{rules}
+use Rattle.order.specs.Answers.{order_in}
+use Rattle.code.proofs.Links.{few-steps, some-steps}
+use Rattle.needed.specs.Model.Tables.{turned}
+use Rattle.needed.proofs.schedule.turn_for.Goals as goal
+
+pub row_words-words-requires : goal.row_words-words-requires
+unfolding order_in
+row_words-words-requires c = c.requires.0.small_memory
+
+pub steps_of-steps-requires : goal.steps_of-steps-requires
+steps_of-steps-requires c = c.requires.0
+
+pub turn-requires : goal.turn-requires
+unfolding order_in
+turn-requires c =
+    let start = c in
+    let acc = start.requires.0 in
+    let few = few-steps (order_in start.args.order) acc in
+    let some = some-steps (order_in start.args.order) acc in
+    let states : 2 ^ start.args.order.v ≤ 2 ^ 8 = pow_mono acc.small_memory in
+    let rows = c.row_words-words.ensures in
+    let steps = c.steps_of-steps.ensures in
+    (record { tables = start.requires.1; narrow = omega arith; few = omega arith }, omega arith)
+
+pub returns : goal.returns
+returns c =
+    let after = c in
+    let start = after in
+    after.turn.ensures
+    ∙ ap₂ (λ (words steps : ℕ). turned words steps start.args.k start.args.work.now) after.row_words-words.ensures after.steps_of-steps.ensures

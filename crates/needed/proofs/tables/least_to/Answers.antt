@@ -1,0 +1,18 @@
+-- At the start, below i, or the lesser of the two ways.
+use borrow.Author.Rules.{rules}
+use Rattle.needed.proofs.Filling.{least_at_start, least_off_start, least_below, least_found}
+use Rattle.needed.proofs.tables.least_to.Goals as goal
+
+pub returns-then-s-i : goal.returns-then-s-i
+returns-then-s-i c = least_at_start _ _ _ _ c.if-t-eq0.true c.if-s-i.true
+
+pub returns-then-t-eq0 : goal.returns-then-t-eq0
+returns-then-t-eq0 c = least_off_start _ _ _ _ c.if-t-eq0.true c.if-s-i.false
+
+pub returns-then-s-i-2 : goal.returns-then-s-i-2
+returns-then-s-i-2 c = least_below _ _ _ _ c.if-t-eq0.false c.if-s-i-2.true
+
+pub returns : goal.returns
+returns c =
+    let past = c in
+    least_found _ _ _ _ _ _ _ _ past.if-t-eq0.false past.if-s-i-2.false past.through-a.ensures c.through-b.ensures c.least.ensures c.least-2.ensures

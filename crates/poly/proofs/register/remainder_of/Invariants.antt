@@ -1,0 +1,22 @@
+-- The invariant: the register holds the remainder of the word without its i lowest bits.
+use mathlib.Core.Path.{◌≡◌, refl, ◌∙◌}
+use Prim.Native.Nat.{ℕ, ◌/◌, ◌^◌, ◌≤◌}
+use native.Mathlib.Nat.{le_refl}
+use native.Mathlib.Omega.{arith}
+use Rattle.poly.specs.Poly.{remainder}
+use Rattle.poly.specs.Word.{number}
+use Rattle.poly.proofs.Sum.{bit_lt}
+use Rattle.poly.proofs.Division.{divided_none, divided_by, divided_end, polynomial_small, remainder_in}
+use Rattle.poly.proofs.register.remainder_of.Given as goal
+
+record Divided (u n m p degree polynomial value i : ℕ) : Type 0 where
+  within : i ≤ n
+  same-degree : degree ≡ m
+  same-polynomial : polynomial ≡ p
+  so_far : value ≡ remainder m p (u / 2 ^ i)
+
+abbrev pub invariant-loop-i : goal.invariant-loop-i
+invariant-loop-i l = Divided (number l.w) l.bits l.m l.polynomial l.r.degree l.r.polynomial l.r.value l.i
+
+abbrev pub decreases-loop-i : goal.decreases-loop-i
+decreases-loop-i l = l.i

@@ -1,0 +1,10 @@
+-- In a cleared buffer.
+use native.Mathlib.Omega.{arith}
+use Rattle.text.proofs.Calls.{laid_as}
+use borrow.Author.Rules.{rules}
+use Rattle.text.proofs.lay_refusal.Goals as goal
+
+pub returns : goal.returns
+returns c =
+    let clear = c in
+    laid_as _ _ clear.requires clear.clear_bytes.ensures c.put_refusal.ensures
