@@ -19,7 +19,7 @@ pub up_from_bounds : {x : ℕ} (n k : ℕ) → Memᴰ x (up_from n k) → (n ≤
 unfolding up_from
 up_from_bounds n zero m = absurd (Memᴰ.not-nil m)
 up_from_bounds {x} n (suc k) m =
-    ⊎_elim (λ (e : x ≡ n). omega arith) (λ r. let h = up_from_bounds (suc n) k r in omega arith) (Memᴰ.cases_cons m)
+    ⊎_elim (λ (e : x ≡ n). omega arith) (λ (r : Memᴰ x (up_from (suc n) k)). let h = up_from_bounds (suc n) k r in omega arith) (Memᴰ.cases_cons m)
 
 pub in_up_from : {x : ℕ} (n k : ℕ) → n ≤ x → x < n + k → Memᴰ x (up_from n k)
 unfolding up_from
