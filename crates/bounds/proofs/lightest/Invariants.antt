@@ -9,10 +9,10 @@ use Rattle.bounds.specs.Model.Tables.{lightest}
 use Rattle.bounds.proofs.ZeroLoops.{lightest_begin, lightest_again, lightest_end}
 use Rattle.bounds.proofs.lightest.Given as goal
 
-record Weighing (work : List ℕ) (least l : ℕ) : Type 0 where
-  begun : 2 ≤ l
-  reached : l ≤ length_count
-  so_far : least ≡ lightest work (l - 2)
+pub record Weighing (work : List ℕ) (least l : ℕ) : Type 0 where
+  pub begun : 2 ≤ l
+  pub reached : l ≤ length_count
+  pub so_far : least ≡ lightest work (l - 2)
 
 abbrev pub invariant-loop-l : goal.invariant-loop-l
 invariant-loop-l l = Weighing l.work l.least l.l

@@ -17,10 +17,10 @@ pub returns-then-not-is_check_polynomial : goal.returns-then-not-is_check_polyno
 returns-then-not-is_check_polynomial c =
     let passed = c in
     refused_later (lists passed) _ _ _ tt passed.ask_both-why.ensures passed.if-why-ne0.false
-    (sym (first_no_no _ _ (sym c.is_check_polynomial.ensures ∙ not-true _ c.if-not-is_check_polynomial.true)))
+    (sym (first_no_no _ _ (sym c.is_check_polynomial.ensures ∙ c.if-not-is_check_polynomial.true)))
 
 pub returns : goal.returns
 returns c =
     let passed = c in
     refused_later (lists passed) _ _ _ tt passed.ask_both-why.ensures passed.if-why-ne0.false
-    (sym (first_no_yes _ _ (sym c.is_check_polynomial.ensures ∙ not-false _ c.if-not-is_check_polynomial.false) ∙ first_no_none))
+    (sym (first_no_yes _ _ (sym c.is_check_polynomial.ensures ∙ c.if-not-is_check_polynomial.false) ∙ first_no_none))

@@ -21,5 +21,5 @@ returns c =
     let a = joined.args in
     joined-halves (bits_at a.work.now) a.begun a.e _ _ _ joined.join_input-w.result
     c.first_or.ensures
-    (omega (arith, joined.join_input-w.type-inv)) joined.make.ensures
+    (omega (arith, joined.join_input-w.type_inv)) joined.make.ensures
     joined.make-2.ensures joined.join_input-w.ensures

@@ -107,7 +107,7 @@ candidates-less c = omega arith
 candidates-again : Here goal.Need-candidates-preserved
 candidates-again c =
     let l = c in
-    met-down l.requires c.candidates-test.true l.candidates.invariant (not-true _ c.if-not-alive-k.true)
+    met-down l.requires c.candidates-test.true l.candidates.invariant (c.if-not-alive-k.true)
 
 candidate-requires : Here goal.Need-candidate-requires
 candidate-requires c κs =

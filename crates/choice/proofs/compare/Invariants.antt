@@ -18,15 +18,15 @@ use Rattle.choice.proofs.Comparing.{best_of, best-length, Met, met_same, met-lim
 use Rattle.choice.proofs.Comparing.{first-offered, met-begin, met-down, met-worse, met-better, met-level, met-end}
 use Rattle.choice.proofs.compare.Given as goal
 
-record Level (m entries : ℕ) (table plain undetected₀ undetected : List ℕ) (alive₀ alive : List Bool) (k₀ k p at j : ℕ) : Type 0 where
-  same-list : undetected ≡ undetected₀
-  same_flags : alive ≡ alive₀
-  same-candidate : k ≡ k₀
-  within : j ≤ entries
-  placed : at ≡ paths_to plain j
-  agree : Agree j (divided_counts m table plain entries p) undetected
+pub record Level (m entries : ℕ) (table plain undetected₀ undetected : List ℕ) (alive₀ alive : List Bool) (k₀ k p at j : ℕ) : Type 0 where
+  pub same-list : undetected ≡ undetected₀
+  pub same_flags : alive ≡ alive₀
+  pub same-candidate : k ≡ k₀
+  pub within : j ≤ entries
+  pub placed : at ≡ paths_to plain j
+  pub agree : Agree j (divided_counts m table plain entries p) undetected
 
-abbrev at : Counted → At
+abbrev pub at : Counted → At
 at c = c
 
 abbrev pub invariant-loop-j : goal.invariant-loop-j

@@ -50,7 +50,7 @@ unfolding order_in
 returns-then-not-is_below c =
     let asked = c in
     encode-refused-late _ _ asked.ask_order-refusal.ensures _ _ asked.if-refusal-ne0.false (roomy c)
-    (sym c.is_below.ensures ∙ not-true _ c.if-not-is_below.true)
+    (sym c.is_below.ensures ∙ c.if-not-is_below.true)
 
 pub encode_in-requires : goal.encode_in-requires
 unfolding order_in
@@ -59,7 +59,7 @@ encode_in-requires c =
     record {
       word = record {
         code = code-accepted _ _ asked.ask_order-refusal.ensures asked.if-refusal-ne0.false;
-        fits = ltb-true _ _ (sym c.is_below.ensures ∙ not-false _ c.if-not-is_below.false);
+        fits = ltb-true _ _ (sym c.is_below.ensures ∙ c.if-not-is_below.false);
       };
       room = roomy c;
     }
@@ -71,4 +71,4 @@ returns c =
     let asked = below in
     ap (λ (l : List ℕ). (accepted tt, l)) c.encode_in.ensures
     ∙ encode-answered _ _ asked.ask_order-refusal.ensures _ _ asked.if-refusal-ne0.false (roomy below)
-    (sym below.is_below.ensures ∙ not-false _ below.if-not-is_below.false)
+    (sym below.is_below.ensures ∙ below.if-not-is_below.false)

@@ -14,14 +14,14 @@ unfolding order_in
 returns-then-not-is_below c =
     let asked = c in
     weigh-refused-late _ _ asked.ask_order-refusal.ensures _ asked.if-refusal-ne0.false
-    (sym c.is_below.ensures ∙ not-true _ c.if-not-is_below.true)
+    (sym c.is_below.ensures ∙ c.if-not-is_below.true)
 
 pub weight_in-requires : goal.weight_in-requires
 unfolding order_in
 weight_in-requires c =
     record {
       code = code-accepted _ _ c.ask_order-refusal.ensures c.if-refusal-ne0.false;
-      fits = ltb-true _ _ (sym c.is_below.ensures ∙ not-false _ c.if-not-is_below.false);
+      fits = ltb-true _ _ (sym c.is_below.ensures ∙ c.if-not-is_below.false);
     }
 
 pub returns : goal.returns
@@ -30,4 +30,4 @@ returns c =
     let asked = c in
     ap accepted c.weight_in.ensures
     ∙ weigh-answered _ _ asked.ask_order-refusal.ensures _ asked.if-refusal-ne0.false
-    (sym c.is_below.ensures ∙ not-false _ c.if-not-is_below.false)
+    (sym c.is_below.ensures ∙ c.if-not-is_below.false)

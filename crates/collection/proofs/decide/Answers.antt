@@ -10,10 +10,10 @@ pub returns-then-room-at : goal.returns-then-room-at
 returns-then-room-at c = decided-full _ _ _ _ c.if-room-at.true
 
 pub returns-then-not-goes_on : goal.returns-then-not-goes_on
-returns-then-not-goes_on c = decided-cut _ _ _ _ (omega arith) (sym c.goes_on.ensures ∙ not-true _ c.if-not-goes_on.true)
+returns-then-not-goes_on c = decided-cut _ _ _ _ (omega arith) (sym c.goes_on.ensures ∙ c.if-not-goes_on.true)
 
 pub returns-then-node-eq0 : goal.returns-then-node-eq0
-returns-then-node-eq0 c = decided-end _ _ _ _ (omega arith) (sym c.goes_on.ensures ∙ not-false _ c.if-not-goes_on.false) c.if-node-eq0.true
+returns-then-node-eq0 c = decided-end _ _ _ _ (omega arith) (sym c.goes_on.ensures ∙ c.if-not-goes_on.false) c.if-node-eq0.true
 
 pub returns : goal.returns
-returns c = decided-more _ _ _ _ (omega arith) (sym c.goes_on.ensures ∙ not-false _ c.if-not-goes_on.false) c.if-node-eq0.false
+returns c = decided-more _ _ _ _ (omega arith) (sym c.goes_on.ensures ∙ c.if-not-goes_on.false) c.if-node-eq0.false

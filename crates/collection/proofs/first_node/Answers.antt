@@ -7,14 +7,6 @@ use mathlib.Core.Path.{refl}
 use Rattle.collection.specs.Model.Backward.{first}
 use Rattle.collection.proofs.first_node.Goals as goal
 
--- GONE nonzero-div-t3
-div-t3 : tie.Need-nonzero-div-t3
-div-t3 c = search rules
-
--- GONE nonzero-rem-t4
-rem-t4 : tie.Need-nonzero-rem-t4
-rem-t4 c = search rules
-
 pub overflow_add-result : goal.overflow_add-result
 overflow_add-result c = let a = c.args in let h : a.k % a.steps < a.steps = mod-lt a.k (omega arith) in omega arith
 

@@ -18,7 +18,7 @@ overflow_sub-bits c = let a = c.args in let g = accepted_polynomial a.bits a.m a
 
 pub returns-then-not-is_below : goal.returns-then-not-is_below
 unfolding append_call
-returns-then-not-is_below c = refused-late _ _ _ _ _ _ _ c.ask_polynomial-refusal.ensures c.if-refusal-ne0.false (sym c.is_below.ensures ∙ not-true _ c.if-not-is_below.true)
+returns-then-not-is_below c = refused-late _ _ _ _ _ _ _ c.ask_polynomial-refusal.ensures c.if-refusal-ne0.false (sym c.is_below.ensures ∙ c.if-not-is_below.true)
 
 pub shift_up-shifted-requires : goal.shift_up-shifted-requires
 shift_up-shifted-requires c =
@@ -30,7 +30,7 @@ shift_up-shifted-requires c =
       below_64 = omega arith;
       fits =
           shifted_fits a.bits a.m _ g.at_most_128 g.degree-below
-          (ltb-true _ _ (sym c.is_below.ensures ∙ not-false _ c.if-not-is_below.false));
+          (ltb-true _ _ (sym c.is_below.ensures ∙ c.if-not-is_below.false));
     }
 
 pub remainder_of-r-requires : goal.remainder_of-r-requires
@@ -39,7 +39,7 @@ remainder_of-r-requires c =
     let a = past.args in
     let none = sym past.ask_polynomial-refusal.ensures ∙ past.if-refusal-ne0.false in
     let g = accepted_polynomial a.bits a.m a.polynomial none in
-    let below = ltb-true _ _ (sym past.is_below.ensures ∙ not-false _ past.if-not-is_below.false) in
+    let below = ltb-true _ _ (sym past.is_below.ensures ∙ past.if-not-is_below.false) in
     record {
       modulus = record { at_most_12 = g.at_most_12; degree = g.degree };
       at_most_128 = g.at_most_128;
@@ -51,4 +51,4 @@ unfolding append_call
 returns c =
     let past = c in
     ap accepted (append_parts _ _ _ _ _ _ _ c.shift_up-shifted.ensures c.remainder_of-r.ensures c.make.ensures c.xor.ensures)
-    ∙ answered _ _ _ _ _ _ _ past.ask_polynomial-refusal.ensures past.if-refusal-ne0.false (sym past.is_below.ensures ∙ not-false _ past.if-not-is_below.false)
+    ∙ answered _ _ _ _ _ _ _ past.ask_polynomial-refusal.ensures past.if-refusal-ne0.false (sym past.is_below.ensures ∙ past.if-not-is_below.false)

@@ -14,7 +14,7 @@ returns-then-refusal-ne0 c = refused-early _ _ _ _ _ _ _ c.ask_polynomial-refusa
 
 pub returns-then-not-is_below : goal.returns-then-not-is_below
 unfolding strip_call
-returns-then-not-is_below c = refused-late _ _ _ _ _ _ _ c.ask_polynomial-refusal.ensures c.if-refusal-ne0.false (sym c.is_below.ensures ∙ not-true _ c.if-not-is_below.true)
+returns-then-not-is_below c = refused-late _ _ _ _ _ _ _ c.ask_polynomial-refusal.ensures c.if-refusal-ne0.false (sym c.is_below.ensures ∙ c.if-not-is_below.true)
 
 pub remainder_of-r-requires : goal.remainder_of-r-requires
 remainder_of-r-requires c =
@@ -24,7 +24,7 @@ remainder_of-r-requires c =
     record {
       modulus = record { at_most_12 = g.at_most_12; degree = g.degree };
       at_most_128 = g.at_most_128;
-      fits = ltb-true _ _ (sym c.is_below.ensures ∙ not-false _ c.if-not-is_below.false);
+      fits = ltb-true _ _ (sym c.is_below.ensures ∙ c.if-not-is_below.false);
     }
 
 pub returns-then-r-ne0 : goal.returns-then-r-ne0
@@ -32,11 +32,11 @@ unfolding strip_call
 returns-then-r-ne0 c =
     let past = c in
     ap accepted (sym (strip_nonzero _ _ _ _ c.remainder_of-r.ensures c.if-r-ne0.true))
-    ∙ answered _ _ _ _ _ _ _ past.ask_polynomial-refusal.ensures past.if-refusal-ne0.false (sym past.is_below.ensures ∙ not-false _ past.if-not-is_below.false)
+    ∙ answered _ _ _ _ _ _ _ past.ask_polynomial-refusal.ensures past.if-refusal-ne0.false (sym past.is_below.ensures ∙ past.if-not-is_below.false)
 
 pub returns : goal.returns
 unfolding strip_call
 returns c =
     let past = c in
     ap accepted (ap message c.shift_down.ensures ∙ sym (strip_zero _ _ _ _ c.remainder_of-r.ensures c.if-r-ne0.false))
-    ∙ answered _ _ _ _ _ _ _ past.ask_polynomial-refusal.ensures past.if-refusal-ne0.false (sym past.is_below.ensures ∙ not-false _ past.if-not-is_below.false)
+    ∙ answered _ _ _ _ _ _ _ past.ask_polynomial-refusal.ensures past.if-refusal-ne0.false (sym past.is_below.ensures ∙ past.if-not-is_below.false)

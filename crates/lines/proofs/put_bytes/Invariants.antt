@@ -11,10 +11,10 @@ use Rattle.lines.specs.Model.Steps.{Put}
 use Rattle.lines.proofs.Puts.{put_none, put_byte, put_as, put_to, put_most, joined}
 use Rattle.lines.proofs.put_bytes.Given as goal
 
-record Copying (buffer₀ : List ℕ) (at : ℕ) (bytes buffer : List ℕ) (i : ℕ) : Type 0 where
-  within : i ≤ length bytes
-  same_size : length buffer ≡ length buffer₀
-  so_far : Put i buffer₀ at (take i bytes) buffer (at + i)
+pub record Copying (buffer₀ : List ℕ) (at : ℕ) (bytes buffer : List ℕ) (i : ℕ) : Type 0 where
+  pub within : i ≤ length bytes
+  pub same_size : length buffer ≡ length buffer₀
+  pub so_far : Put i buffer₀ at (take i bytes) buffer (at + i)
 
 abbrev pub invariant-loop-i : goal.invariant-loop-i
 invariant-loop-i l = Copying l.initial.buffer l.at l.bytes l.buffer l.i

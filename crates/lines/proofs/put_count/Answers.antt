@@ -6,14 +6,6 @@ use Rattle.lines.proofs.Sizes.{count_short}
 use borrow.Author.Rules.{rules}
 use Rattle.lines.proofs.put_count.Goals as goal
 
--- GONE shared-slice-read-t8
-shared-slice-read-t8 : tie.Need-shared-slice-read-t8
-shared-slice-read-t8 c = search rules
-
--- GONE slice-aggregate-put-line-2
-slice-aggregate-put-line-2 : tie.Need-slice-aggregate-put-line-2
-slice-aggregate-put-line-2 c = search rules
-
 pub returns : goal.returns
 returns c =
     let lists = c in

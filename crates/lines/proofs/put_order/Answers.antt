@@ -21,10 +21,6 @@ start c = c.before.before
 few : (c : goal.After-generators-1) → length (take (start c).args.o.n c.generators_of.result) ≡ (start c).args.o.n
 few c = length-take-le _ _ (omega (arith, c.generators_of.ensures.1))
 
--- GONE slice-aggregate-put-bytes
-slice-aggregate-put-bytes : tie.Need-slice-aggregate-put-bytes
-slice-aggregate-put-bytes c = search rules
-
 pub put_numbers-after_numbers-requires : goal.put_numbers-after_numbers-requires
 put_numbers-after_numbers-requires c = record { not_below = omega arith; at_most_16 = omega arith; room = omega arith }
 

@@ -15,11 +15,6 @@ digits_short : (c : goal.After-put_digits-arg-1)
     → length (numeral 16 c.before.before.before.before.before.before.before.args.polynomial) ≤ 22
 digits_short c = number_short 16 _ (omega arith) (omega arith)
 
--- ---- the needs
--- GONE slice-aggregate-put-bytes
-slice-aggregate-put-bytes : tie.Need-slice-aggregate-put-bytes
-slice-aggregate-put-bytes c = search rules
-
 pub put_digits-after_digits-requires : goal.put_digits-after_digits-requires
 put_digits-after_digits-requires c = record { not_below = omega arith; at_most_16 = omega arith; room = omega (arith, digits_short c) }
 

@@ -11,10 +11,10 @@ use Rattle.parity.proofs.Divided.{row_lt}
 use Rattle.parity.proofs.Rows.{row_none, row_next, power_first, power_next}
 use Rattle.parity.proofs.check_row.Given as goal
 
-record Made (n m p i row power j : ℕ) : Type 0 where
-  within : j ≤ n
-  so_far : row ≡ check_row j m p i
-  power-of-x : power ≡ remainder m p (2 ^ j)
+pub record Made (n m p i row power j : ℕ) : Type 0 where
+  pub within : j ≤ n
+  pub so_far : row ≡ check_row j m p i
+  pub power-of-x : power ≡ remainder m p (2 ^ j)
 
 abbrev pub invariant-loop-j : goal.invariant-loop-j
 invariant-loop-j l = Made l.bits l.m l.p l.i (number l.row) l.power l.j

@@ -18,7 +18,7 @@ loop-i-preserved c =
     let w = c.check_row-row.result in (
       omega arith,
       ap (λ (t : List ℕ). set (set t (2 * l.i) w.low) (2 * l.i + 1) w.high) l.invariant.1
-          ∙ rows_next _ _ _ l.i w.high w.low (omega (arith, c.check_row-row.type-inv)) (omega arith) c.check_row-row.ensures,
+          ∙ rows_next _ _ _ l.i w.high w.low (omega (arith, c.check_row-row.type_inv)) (omega arith) c.check_row-row.ensures,
     )
 
 pub returns : goal.returns

@@ -13,12 +13,12 @@ use Rattle.rotations.specs.Model.Put.{puts}
 use Rattle.rotations.proofs.AllTurns.{is_zero, is_some, turns_from, turns_zero, turns_begin, turns_again, turns_end, turned_again, turned_lt, length_after, place_after}
 use Rattle.rotations.proofs.push_turns.Given as goal
 
-record Turning (table₀ : List ℕ) (at bits first c : ℕ) (table : List ℕ) (next u r : ℕ) : Type 0 where
-  within : r ≤ first
-  same_size : length table ≡ length table₀
-  near : next ≤ path_room (length table) + 1
-  turned : r < first → u ≡ rotate bits r c
-  left : puts (turns_from bits r (first - r) c) (table, next) ≡ puts (turns bits first c) (table₀, at)
+pub record Turning (table₀ : List ℕ) (at bits first c : ℕ) (table : List ℕ) (next u r : ℕ) : Type 0 where
+  pub within : r ≤ first
+  pub same_size : length table ≡ length table₀
+  pub near : next ≤ path_room (length table) + 1
+  pub turned : r < first → u ≡ rotate bits r c
+  pub left : puts (turns_from bits r (first - r) c) (table, next) ≡ puts (turns bits first c) (table₀, at)
 
 abbrev pub invariant-loop-r : goal.invariant-loop-r
 invariant-loop-r l = Turning l.initial.table l.at l.bits l.first (number l.initial.u) l.table l.next (number l.u) l.r

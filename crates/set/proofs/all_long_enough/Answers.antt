@@ -16,13 +16,13 @@ pub returns-then-not-from_to : goal.returns-then-not-from_to
 returns-then-not-from_to c =
     let gs = c.args.lengths.now in
     let l = c.loop-i in
-    sym (l.invariant.1 ∙ all-fails _ gs 0 l.i (omega arith) (sym c.from_to.ensures ∙ not-true _ c.if-not-from_to.true))
+    sym (l.invariant.1 ∙ all-fails _ gs 0 l.i (omega arith) (sym c.from_to.ensures ∙ c.if-not-from_to.true))
 
 pub loop-i-preserved : goal.loop-i-preserved
 loop-i-preserved c =
     let gs = c.args.lengths.now in
     let l = c.loop-i in
-    (omega arith, l.invariant.1 ∙ all-goes-on _ gs 0 l.i (omega arith) (sym c.from_to.ensures ∙ not-false _ c.if-not-from_to.false))
+    (omega arith, l.invariant.1 ∙ all-goes-on _ gs 0 l.i (omega arith) (sym c.from_to.ensures ∙ c.if-not-from_to.false))
 
 pub returns : goal.returns
 returns c = let gs = c.args.lengths.now in let l = c.loop-i in sym (l.invariant.1 ∙ all_end _ gs 0 l.i (omega arith))

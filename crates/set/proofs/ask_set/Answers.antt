@@ -41,7 +41,7 @@ returns-then-shape-ne0 c = let a = c.args in by_kind a.order a.lengths.now a.pla
 pub returns-then-not-is_length_list : goal.returns-then-not-is_length_list
 returns-then-not-is_length_list c =
     let a = c.args in
-    by-list a.order a.lengths.now a.plain a.undetected a.size _ c.ask_shape-shape.ensures c.if-shape-ne0.false (sym c.is_length_list.ensures ∙ not-true _ c.if-not-is_length_list.true)
+    by-list a.order a.lengths.now a.plain a.undetected a.size _ c.ask_shape-shape.ensures c.if-shape-ne0.false (sym c.is_length_list.ensures ∙ c.if-not-is_length_list.true)
 
 pub returns-then-not-all_long_enough : goal.returns-then-not-all_long_enough
 unfolding order_in
@@ -49,14 +49,14 @@ returns-then-not-all_long_enough c =
     let second = c in
     let first = second in
     let a = first.args in
-    by_length a.order a.lengths.now a.plain a.undetected a.size _ first.ask_shape-shape.ensures first.if-shape-ne0.false (sym second.is_length_list.ensures ∙ not-false _ second.if-not-is_length_list.false)
-    (sym c.all_long_enough.ensures ∙ not-true _ c.if-not-all_long_enough.true)
+    by_length a.order a.lengths.now a.plain a.undetected a.size _ first.ask_shape-shape.ensures first.if-shape-ne0.false (sym second.is_length_list.ensures ∙ second.if-not-is_length_list.false)
+    (sym c.all_long_enough.ensures ∙ c.if-not-all_long_enough.true)
 
 pub overflow_sub-lengths : goal.overflow_sub-lengths
-overflow_sub-lengths c = some-lengths c.args.lengths.now (sym c.is_length_list.ensures ∙ not-false _ c.if-not-is_length_list.false)
+overflow_sub-lengths c = some-lengths c.args.lengths.now (sym c.is_length_list.ensures ∙ c.if-not-is_length_list.false)
 
 pub bounds-lengths-lengths : goal.bounds-lengths-lengths
-bounds-lengths-lengths c = omega (arith, some-lengths c.args.lengths.now (sym c.is_length_list.ensures ∙ not-false _ c.if-not-is_length_list.false))
+bounds-lengths-lengths c = omega (arith, some-lengths c.args.lengths.now (sym c.is_length_list.ensures ∙ c.if-not-is_length_list.false))
 
 pub returns : goal.returns
 unfolding shortest order_in
@@ -65,6 +65,6 @@ returns c =
     let second = third in
     let first = second in
     let a = first.args in
-    by-search a.order a.lengths.now a.plain a.undetected a.size _ first.ask_shape-shape.ensures first.if-shape-ne0.false (sym second.is_length_list.ensures ∙ not-false _ second.if-not-is_length_list.false)
-    (sym third.all_long_enough.ensures ∙ not-false _ third.if-not-all_long_enough.false) _
+    by-search a.order a.lengths.now a.plain a.undetected a.size _ first.ask_shape-shape.ensures first.if-shape-ne0.false (sym second.is_length_list.ensures ∙ second.if-not-is_length_list.false)
+    (sym third.all_long_enough.ensures ∙ third.if-not-all_long_enough.false) _
     (as-searched a.order a.lengths.now a.plain a.undetected a.size _ c.with_length-shortest.ensures _ c.choosing.ensures _ c.ask.ensures)

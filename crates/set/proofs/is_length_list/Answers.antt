@@ -12,15 +12,15 @@ use Rattle.set.proofs.Lists.{falling_begin, falls-on, rises, falls-end}
 use Rattle.set.proofs.is_length_list.Goals as goal
 
 pub returns-then-not-from_to : goal.returns-then-not-from_to
-returns-then-not-from_to c = sym (ap (λ (b : Bool). b && falling c.args.lengths.now) (sym c.from_to.ensures ∙ not-true _ c.if-not-from_to.true))
+returns-then-not-from_to c = sym (ap (λ (b : Bool). b && falling c.args.lengths.now) (sym c.from_to.ensures ∙ c.if-not-from_to.true))
 
 pub bounds-lengths-0 : goal.bounds-lengths-0
-bounds-lengths-0 c = omega (arith, (range 1 8 _ (sym c.from_to.ensures ∙ not-false _ c.if-not-from_to.false)).0)
+bounds-lengths-0 c = omega (arith, (range 1 8 _ (sym c.from_to.ensures ∙ c.if-not-from_to.false)).0)
 
 pub loop-i-init : goal.loop-i-init
 loop-i-init c =
     let l = c.args.lengths.now in
-    let counted = sym c.from_to.ensures ∙ not-false _ c.if-not-from_to.false in
+    let counted = sym c.from_to.ensures ∙ c.if-not-from_to.false in
     let some : 1 ≤ length l = (range 1 8 _ counted).0 in
     (omega arith, some, ap (λ (b : Bool). b && falling l) counted ∙ falling_begin l some)
 

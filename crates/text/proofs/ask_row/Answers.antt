@@ -19,15 +19,15 @@ Past k s = first_no (rest 0 s) ≡ first_no (rest k s)
 
 past-2 : (c : goal.Else-not-from_to) → Past 1 c.before.before
 unfolding row_questions
-past-2 c = first_no_yes _ _ (sym c.from_to.ensures ∙ not-false _ c.if-not-from_to.false)
+past-2 c = first_no_yes _ _ (sym c.from_to.ensures ∙ c.if-not-from_to.false)
 
 past-3 : (c : goal.Else-not-from_to-2) → Past 2 c.before.before.before.before
 unfolding row_questions
-past-3 c = past-2 c ∙ first_no_yes _ _ (sym c.from_to-2.ensures ∙ not-false _ c.if-not-from_to-2.false)
+past-3 c = past-2 c ∙ first_no_yes _ _ (sym c.from_to-2.ensures ∙ c.if-not-from_to-2.false)
 
 past-7 : (c : goal.Else-not-from_to-3) → Past 3 c.before.before.before.before.before.before
 unfolding row_questions
-past-7 c = past-3 c ∙ first_no_yes _ _ (sym c.from_to-3.ensures ∙ not-false _ c.if-not-from_to-3.false)
+past-7 c = past-3 c ∙ first_no_yes _ _ (sym c.from_to-3.ensures ∙ c.if-not-from_to-3.false)
 
 past-plain : (c : goal.Else-plain-entries) → Past 4 c.before.before.before.before.before.before.before.before
 unfolding row_questions
@@ -39,15 +39,15 @@ past-undetected c = past-plain c ∙ first_no_yes _ _ (le-leb _ _ (rw c.counted_
 
 pub returns-then-not-from_to : goal.returns-then-not-from_to
 unfolding row_questions
-returns-then-not-from_to c = sym (first_no_no _ _ (sym c.from_to.ensures ∙ not-true _ c.if-not-from_to.true))
+returns-then-not-from_to c = sym (first_no_no _ _ (sym c.from_to.ensures ∙ c.if-not-from_to.true))
 
 pub returns-then-not-from_to-2 : goal.returns-then-not-from_to-2
 unfolding row_questions
-returns-then-not-from_to-2 c = sym (past-2 c ∙ first_no_no _ _ (sym c.from_to-2.ensures ∙ not-true _ c.if-not-from_to-2.true))
+returns-then-not-from_to-2 c = sym (past-2 c ∙ first_no_no _ _ (sym c.from_to-2.ensures ∙ c.if-not-from_to-2.true))
 
 pub returns-then-not-from_to-3 : goal.returns-then-not-from_to-3
 unfolding row_questions
-returns-then-not-from_to-3 c = sym (past-3 c ∙ first_no_no _ _ (sym c.from_to-3.ensures ∙ not-true _ c.if-not-from_to-3.true))
+returns-then-not-from_to-3 c = sym (past-3 c ∙ first_no_no _ _ (sym c.from_to-3.ensures ∙ c.if-not-from_to-3.true))
 
 pub returns-then-plain-entries : goal.returns-then-plain-entries
 unfolding row_questions

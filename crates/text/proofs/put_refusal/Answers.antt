@@ -6,10 +6,6 @@ use Rattle.lines.specs.Lines.{wNO}
 use borrow.Author.Rules.{rules}
 use Rattle.text.proofs.put_refusal.Goals as goal
 
--- GONE slice-aggregate-put-line-2
-slice-aggregate-put-line-2 : tie.Need-slice-aggregate-put-line-2
-slice-aggregate-put-line-2 c = search rules
-
 pub returns : goal.returns
 unfolding wNO refusal_text
 returns c = let p = c.put_line.ensures in put_most 4096 p (omega (arith, p.short))

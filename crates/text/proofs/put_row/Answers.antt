@@ -16,14 +16,6 @@ order c = c.before.before.before.before.before.before
 abbrev start : goal.After-put_line-to_counts → goal.Start
 start c = (order c).before.before.before.before.before
 
--- GONE slice-aggregate-put-line-3
-slice-aggregate-put-line-3 : tie.Need-slice-aggregate-put-line-3
-slice-aggregate-put-line-3 c = search rules
-
--- GONE slice-aggregate-put-line-4
-slice-aggregate-put-line-4 : tie.Need-slice-aggregate-put-line-4
-slice-aggregate-put-line-4 c = search rules
-
 pub put_counts-to_polynomial-requires : goal.put_counts-to_polynomial-requires
 put_counts-to_polynomial-requires c =
     let counts = (start c).requires.counts in

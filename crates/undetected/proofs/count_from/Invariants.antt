@@ -10,11 +10,11 @@ use Rattle.undetected.specs.Model.Steps.{counted_from}
 use Rattle.undetected.proofs.Counted.{before-next, before-end, counted-weight, counted_none, length-counted, counted_next}
 use Rattle.undetected.proofs.count_from.Given as goal
 
-record Counted (table plain undetected₀ : List ℕ) (m p first entries : ℕ) (undetected : List ℕ) (at j : ℕ) : Type 0 where
-  begun : first ≤ j
-  within : j ≤ entries
-  placed : at ≡ paths_to plain j
-  so_far : undetected ≡ counted_from m p table plain first j undetected₀
+pub record Counted (table plain undetected₀ : List ℕ) (m p first entries : ℕ) (undetected : List ℕ) (at j : ℕ) : Type 0 where
+  pub begun : first ≤ j
+  pub within : j ≤ entries
+  pub placed : at ≡ paths_to plain j
+  pub so_far : undetected ≡ counted_from m p table plain first j undetected₀
 
 abbrev pub invariant-loop-j : goal.invariant-loop-j
 invariant-loop-j l =

@@ -9,11 +9,11 @@ use Rattle.undetected.specs.Model.Steps.{even_between}
 use Rattle.undetected.proofs.Counting.{even-none, even-passes, even-fails, even-le, even-past, even-all}
 use Rattle.undetected.proofs.count_up_to.Given as goal
 
-record Found (table : List ℕ) (from to : ℕ) (rows : List ℕ) (m limit found k : ℕ) : Type 0 where
-  begun : from ≤ k
-  within : k ≤ to
-  so_far : found ≡ even_between rows m table from k
-  few : found ≤ limit
+pub record Found (table : List ℕ) (from to : ℕ) (rows : List ℕ) (m limit found k : ℕ) : Type 0 where
+  pub begun : from ≤ k
+  pub within : k ≤ to
+  pub so_far : found ≡ even_between rows m table from k
+  pub few : found ≤ limit
 
 abbrev pub invariant-loop-k : goal.invariant-loop-k
 invariant-loop-k l = Found l.table l.from l.to l.rows l.m l.limit l.found l.k

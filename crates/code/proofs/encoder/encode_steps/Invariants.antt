@@ -14,12 +14,12 @@ use Rattle.code.proofs.Windows.{later_none, later_more, kept_memory, kept-inputs
 use Rattle.code.proofs.Sent.{sent, sent-none, sent-more, step_room, at_more, stored-length, all_sent}
 use Rattle.code.proofs.encoder.encode_steps.Given as goal
 
-record Sending (output₀ gs : List ℕ) (steps : ℕ) (w₀ : Window) (output : List ℕ) (w : Window) (t at : ℕ) : Type 0 where
-  within : t ≤ steps
-  window : Later w₀ t w
-  place : at ≡ t * length gs
-  same_size : length output ≡ length output₀
-  stored : output ≡ sets output₀ 0 (sent w₀.memory steps gs (number w₀.rest) t)
+pub record Sending (output₀ gs : List ℕ) (steps : ℕ) (w₀ : Window) (output : List ℕ) (w : Window) (t at : ℕ) : Type 0 where
+  pub within : t ≤ steps
+  pub window : Later w₀ t w
+  pub place : at ≡ t * length gs
+  pub same_size : length output ≡ length output₀
+  pub stored : output ≡ sets output₀ 0 (sent w₀.memory steps gs (number w₀.rest) t)
 
 abbrev pub invariant-loop-t : goal.invariant-loop-t
 invariant-loop-t l = Sending l.initial.output l.generators l.steps l.initial.window l.output l.window l.t l.at

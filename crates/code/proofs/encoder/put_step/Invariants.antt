@@ -10,10 +10,10 @@ use Rattle.lists.proofs.Stores.{sets-map-more, sets-map-all}
 use Rattle.code.specs.Trellis.{tapped}
 use Rattle.code.proofs.encoder.put_step.Given as goal
 
-record Storing (output₀ : List ℕ) (at : ℕ) (gs : List ℕ) (inputs : ℕ) (output : List ℕ) (i : ℕ) : Type 0 where
-  within : i ≤ length gs
-  same_size : length output ≡ length output₀
-  stored : output ≡ sets output₀ at (map (tapped inputs) (take i gs))
+pub record Storing (output₀ : List ℕ) (at : ℕ) (gs : List ℕ) (inputs : ℕ) (output : List ℕ) (i : ℕ) : Type 0 where
+  pub within : i ≤ length gs
+  pub same_size : length output ≡ length output₀
+  pub stored : output ≡ sets output₀ at (map (tapped inputs) (take i gs))
 
 abbrev pub invariant-loop-i : goal.invariant-loop-i
 invariant-loop-i l = Storing l.initial.output l.at l.generators l.inputs l.output l.i

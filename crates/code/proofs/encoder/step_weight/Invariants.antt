@@ -9,10 +9,10 @@ use Rattle.code.specs.Trellis.{step_weight}
 use Rattle.code.proofs.Weights.{tapped_lt, step_again, step_end}
 use Rattle.code.proofs.encoder.step_weight.Given as goal
 
-record Summing (generators : List ℕ) (x sum i : ℕ) : Type 0 where
-  within : i ≤ length generators
-  small : sum ≤ i
-  adds : sum + step_weight (drop i generators) (x / 2) (x % 2) ≡ step_weight generators (x / 2) (x % 2)
+pub record Summing (generators : List ℕ) (x sum i : ℕ) : Type 0 where
+  pub within : i ≤ length generators
+  pub small : sum ≤ i
+  pub adds : sum + step_weight (drop i generators) (x / 2) (x % 2) ≡ step_weight generators (x / 2) (x % 2)
 
 abbrev pub invariant-loop-i : goal.invariant-loop-i
 invariant-loop-i l = Summing l.generators l.x l.sum l.i

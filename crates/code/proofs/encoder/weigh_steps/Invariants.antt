@@ -15,11 +15,11 @@ use Rattle.code.proofs.Windows.{later_none, later_more, kept_memory, kept-inputs
 use Rattle.code.proofs.Weights.{step_few, steps-none, steps-more, steps_end}
 use Rattle.code.proofs.encoder.weigh_steps.Given as goal
 
-record Weighing (gs : List ℕ) (steps : ℕ) (w₀ w : Window) (total k : ℕ) : Type 0 where
-  within : k ≤ steps
-  window : Later w₀ k w
-  small : total ≤ 4 * k
-  summed : total ≡ sum k (weighs gs w₀.memory steps (number w₀.rest))
+pub record Weighing (gs : List ℕ) (steps : ℕ) (w₀ w : Window) (total k : ℕ) : Type 0 where
+  pub within : k ≤ steps
+  pub window : Later w₀ k w
+  pub small : total ≤ 4 * k
+  pub summed : total ≡ sum k (weighs gs w₀.memory steps (number w₀.rest))
 
 abbrev pub invariant-loop-k : goal.invariant-loop-k
 invariant-loop-k l = Weighing l.generators l.steps l.initial.window l.window l.total l.k

@@ -8,10 +8,10 @@ use Rattle.needed.specs.Model.Tables.{step_count, weights_from}
 use Rattle.needed.proofs.Filling.{weights_again, weights_end}
 use Rattle.needed.proofs.tables.fill_weights.Given as goal
 
-record Weighing (generators work₀ work : List ℕ) (x : ℕ) : Type 0 where
-  within : x ≤ step_count
-  same_size : length work ≡ length work₀
-  gives : weights_from generators (step_count - x) x work ≡ weights_from generators step_count 0 work₀
+pub record Weighing (generators work₀ work : List ℕ) (x : ℕ) : Type 0 where
+  pub within : x ≤ step_count
+  pub same_size : length work ≡ length work₀
+  pub gives : weights_from generators (step_count - x) x work ≡ weights_from generators step_count 0 work₀
 
 abbrev pub invariant-loop-x : goal.invariant-loop-x
 invariant-loop-x l = Weighing l.generators l.initial.work l.work l.x

@@ -10,16 +10,8 @@ use Rattle.needed.proofs.Places.{length_region}
 use Rattle.needed.proofs.Filling.{tables_set, turned-first, turned_later, length-rows_from}
 use Rattle.needed.proofs.tables.turn.Goals as goal
 
--- GONE nonzero-rem-step
-rem-step : tie.Need-nonzero-rem-step
-rem-step c = search rules
-
 pub overflow_add-work : goal.overflow_add-work
 overflow_add-work c = let a = c.args in let h : a.k % a.steps < a.steps = mod-lt a.k (omega arith) in omega arith
-
--- GONE nonzero-div-fill-rows
-div-fill-rows : tie.Need-nonzero-div-fill-rows
-div-fill-rows c = search rules
 
 pub fill_rows-requires : goal.fill_rows-requires
 fill_rows-requires c =

@@ -8,23 +8,23 @@ use Rattle.order.proofs.questions.ask_shape.Goals as goal
 
 pub returns-then-not-from_to : goal.returns-then-not-from_to
 unfolding shape_questions
-returns-then-not-from_to c = sym (first_no_no _ _ (sym c.from_to.ensures ∙ not-true _ c.if-not-from_to.true))
+returns-then-not-from_to c = sym (first_no_no _ _ (sym c.from_to.ensures ∙ c.if-not-from_to.true))
 
 pub returns-then-not-from_to-2 : goal.returns-then-not-from_to-2
 unfolding shape_questions
 returns-then-not-from_to-2 c =
     let first = c in
-    sym (first_no_yes _ _ (sym first.from_to.ensures ∙ not-false _ first.if-not-from_to.false)
-    ∙ first_no_no _ _ (sym c.from_to-2.ensures ∙ not-true _ c.if-not-from_to-2.true))
+    sym (first_no_yes _ _ (sym first.from_to.ensures ∙ first.if-not-from_to.false)
+    ∙ first_no_no _ _ (sym c.from_to-2.ensures ∙ c.if-not-from_to-2.true))
 
 pub returns-then-not-from_to-3 : goal.returns-then-not-from_to-3
 unfolding shape_questions
 returns-then-not-from_to-3 c =
     let second = c in
     let first = second in
-    sym (first_no_yes _ _ (sym first.from_to.ensures ∙ not-false _ first.if-not-from_to.false)
-    ∙ first_no_yes _ _ (sym second.from_to-2.ensures ∙ not-false _ second.if-not-from_to-2.false)
-    ∙ first_no_no _ _ (sym c.from_to-3.ensures ∙ not-true _ c.if-not-from_to-3.true))
+    sym (first_no_yes _ _ (sym first.from_to.ensures ∙ first.if-not-from_to.false)
+    ∙ first_no_yes _ _ (sym second.from_to-2.ensures ∙ second.if-not-from_to-2.false)
+    ∙ first_no_no _ _ (sym c.from_to-3.ensures ∙ c.if-not-from_to-3.true))
 
 pub returns-then-not-from_to-4 : goal.returns-then-not-from_to-4
 unfolding shape_questions
@@ -32,10 +32,10 @@ returns-then-not-from_to-4 c =
     let third = c in
     let second = third in
     let first = second in
-    sym (first_no_yes _ _ (sym first.from_to.ensures ∙ not-false _ first.if-not-from_to.false)
-    ∙ first_no_yes _ _ (sym second.from_to-2.ensures ∙ not-false _ second.if-not-from_to-2.false)
-    ∙ first_no_yes _ _ (sym third.from_to-3.ensures ∙ not-false _ third.if-not-from_to-3.false)
-    ∙ first_no_no _ _ (sym c.from_to-4.ensures ∙ not-true _ c.if-not-from_to-4.true))
+    sym (first_no_yes _ _ (sym first.from_to.ensures ∙ first.if-not-from_to.false)
+    ∙ first_no_yes _ _ (sym second.from_to-2.ensures ∙ second.if-not-from_to-2.false)
+    ∙ first_no_yes _ _ (sym third.from_to-3.ensures ∙ third.if-not-from_to-3.false)
+    ∙ first_no_no _ _ (sym c.from_to-4.ensures ∙ c.if-not-from_to-4.true))
 
 pub returns : goal.returns
 unfolding shape_questions
@@ -43,8 +43,8 @@ returns c =
     let third = c in
     let second = third in
     let first = second in
-    sym (first_no_yes _ _ (sym first.from_to.ensures ∙ not-false _ first.if-not-from_to.false)
-    ∙ first_no_yes _ _ (sym second.from_to-2.ensures ∙ not-false _ second.if-not-from_to-2.false)
-    ∙ first_no_yes _ _ (sym third.from_to-3.ensures ∙ not-false _ third.if-not-from_to-3.false)
-    ∙ first_no_yes _ _ (sym c.from_to-4.ensures ∙ not-false _ c.if-not-from_to-4.false)
+    sym (first_no_yes _ _ (sym first.from_to.ensures ∙ first.if-not-from_to.false)
+    ∙ first_no_yes _ _ (sym second.from_to-2.ensures ∙ second.if-not-from_to-2.false)
+    ∙ first_no_yes _ _ (sym third.from_to-3.ensures ∙ third.if-not-from_to-3.false)
+    ∙ first_no_yes _ _ (sym c.from_to-4.ensures ∙ c.if-not-from_to-4.false)
     ∙ first_no_none)

@@ -6,10 +6,10 @@ use Rattle.order.proofs.Asked.{not_taken, taken_said}
 use Rattle.order.proofs.record.ask_if.Goals as goal
 
 pub returns-then-not-taken : goal.returns-then-not-taken
-returns-then-not-taken c = not_taken _ _ (not-true _ c.if-not-taken.true)
+returns-then-not-taken c = not_taken _ _ (c.if-not-taken.true)
 
 pub returns-then-yes : goal.returns-then-yes
-returns-then-yes c = sym (first_no_yes _ _ c.if-yes.true ∙ first_no_none) ∙ taken_said _ _ (not-false _ c.if-not-taken.false)
+returns-then-yes c = sym (first_no_yes _ _ c.if-yes.true ∙ first_no_none) ∙ taken_said _ _ (c.if-not-taken.false)
 
 pub returns : goal.returns
-returns c = sym (first_no_no _ _ c.if-yes.false) ∙ taken_said _ _ (not-false _ c.if-not-taken.false)
+returns c = sym (first_no_no _ _ c.if-yes.false) ∙ taken_said _ _ (c.if-not-taken.false)

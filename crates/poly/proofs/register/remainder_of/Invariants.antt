@@ -9,11 +9,11 @@ use Rattle.poly.proofs.Sum.{bit_lt}
 use Rattle.poly.proofs.Division.{divided_none, divided_by, divided_end, polynomial_small, remainder_in}
 use Rattle.poly.proofs.register.remainder_of.Given as goal
 
-record Divided (u n m p degree polynomial value i : ℕ) : Type 0 where
-  within : i ≤ n
-  same-degree : degree ≡ m
-  same-polynomial : polynomial ≡ p
-  so_far : value ≡ remainder m p (u / 2 ^ i)
+pub record Divided (u n m p degree polynomial value i : ℕ) : Type 0 where
+  pub within : i ≤ n
+  pub same-degree : degree ≡ m
+  pub same-polynomial : polynomial ≡ p
+  pub so_far : value ≡ remainder m p (u / 2 ^ i)
 
 abbrev pub invariant-loop-i : goal.invariant-loop-i
 invariant-loop-i l = Divided (number l.w) l.bits l.m l.polynomial l.r.degree l.r.polynomial l.r.value l.i

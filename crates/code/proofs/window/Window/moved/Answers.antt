@@ -19,10 +19,6 @@ few_states c =
 pub power-requires : goal.power-requires
 power-requires c = omega (arith, c.requires)
 
--- GONE nonzero-rem-t4
-rem-t4 : tie.Need-nonzero-rem-t4
-rem-t4 c = some-states c
-
 pub overflow_cast-result : goal.overflow_cast-result
 overflow_cast-result c = record { fits = lt_of_lt_of_le (mod-lt _ (some-states c)) (few_states c) }
 

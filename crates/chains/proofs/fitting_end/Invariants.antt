@@ -1,0 +1,2 @@
+pub mod Turns
+use Rattle.chains.proofs.fitting_end.Given as goal

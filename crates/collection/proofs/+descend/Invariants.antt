@@ -1,0 +1,2 @@
+pub mod Descent
+use Rattle.collection.proofs.+descend.Given as goal

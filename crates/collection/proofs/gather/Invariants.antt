@@ -1,0 +1,2 @@
+pub mod Collecting
+use Rattle.collection.proofs.gather.Given as goal

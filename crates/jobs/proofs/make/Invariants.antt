@@ -1,0 +1,2 @@
+pub mod Told
+use Rattle.jobs.proofs.make.Given as goal
