@@ -63,15 +63,15 @@ encoded_number E.Done = refl
 encoded_number (E.Refused k) = refl
 
 module _ {L : Type 0} (left : L) where
-  pub encode-answer : (a : Encoded) (r : ℕ) (x : Answer (Unit {0}) × L) → r ≡ of_encoded a → (encoded_as a, left) ≡ x → (r, left) ≡ numbered x
+  pub encode_answer : (a : Encoded) (r : ℕ) (x : Answer (Unit {0}) × L) → r ≡ of_encoded a → (encoded_as a, left) ≡ x → (r, left) ≡ numbered x
   unfolding numbered
-  encode-answer a r x e ex = ap (λ (k : ℕ). (k, left)) (e ∙ encoded_number a) ∙ ap numbered ex
+  encode_answer a r x e ex = ap (λ (k : ℕ). (k, left)) (e ∙ encoded_number a) ∙ ap numbered ex
 
-  pub text-answer : (a : Written) (r : HostAnswer) (x : Answer ℕ × L) → r ≡ of_written a → (written_as a, left) ≡ x → (r, left) ≡ told_with number_answer x
+  pub text_answer : (a : Written) (r : HostAnswer) (x : Answer ℕ × L) → r ≡ of_written a → (written_as a, left) ≡ x → (r, left) ≡ told_with number_answer x
   unfolding told_with told refusal_answer number_answer
-  text-answer (X.Bytes n) r x e ex = ap (λ (s : HostAnswer). (s, left)) e ∙ ap (told_with number_answer) ex
-  text-answer (X.Refused k) r x e ex = ap (λ (s : HostAnswer). (s, left)) e ∙ ap (told_with number_answer) ex
+  text_answer (X.Bytes n) r x e ex = ap (λ (s : HostAnswer). (s, left)) e ∙ ap (told_with number_answer) ex
+  text_answer (X.Refused k) r x e ex = ap (λ (s : HostAnswer). (s, left)) e ∙ ap (told_with number_answer) ex
 
-  pub row-answer : (a : Answered) (r : RowAnswer) (x : Answer Row × L) → r ≡ row_answer (answered_as a) → (answered_as a, left) ≡ x → (r, left) ≡ row_with x
+  pub row_answer_lem : (a : Answered) (r : RowAnswer) (x : Answer Row × L) → r ≡ row_answer (answered_as a) → (answered_as a, left) ≡ x → (r, left) ≡ row_with x
   unfolding row_with
-  row-answer a r x e ex = ap (λ (s : RowAnswer). (s, left)) e ∙ ap row_with ex
+  row_answer_lem a r x e ex = ap (λ (s : RowAnswer). (s, left)) e ∙ ap row_with ex

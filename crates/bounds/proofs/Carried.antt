@@ -48,34 +48,34 @@ carried_at ends starts (suc n) from work (suc j) h room apart =
     ∙ highest_cong (set work starts from) work (ends + 1) later j (λ i p q. get_or-set_other work starts i from 0 (off i p q)))
 
 module _ (work : List ℕ) where
-  pub highest-from : (ends from j : ℕ) → from ≤ highest work ends from j
+  pub highest_from : (ends from j : ℕ) → from ≤ highest work ends from j
   unfolding highest
-  highest-from ends from zero = omega arith
-  highest-from ends from (suc j) = let rest = highest-from (ends + 1) (max from (get_or work ends 0)) j in omega arith
+  highest_from ends from zero = omega arith
+  highest_from ends from (suc j) = let rest = highest_from (ends + 1) (max from (get_or work ends 0)) j in omega arith
 
-  pub highest-rises : (ends from j j' : ℕ) → j ≤ j' → highest work ends from j ≤ highest work ends from j'
+  pub highest_rises : (ends from j j' : ℕ) → j ≤ j' → highest work ends from j ≤ highest work ends from j'
   unfolding highest
-  highest-rises ends from zero j' h = highest-from ends from j'
-  highest-rises ends from (suc j) zero h = absurd (omega arith)
-  highest-rises ends from (suc j) (suc j') h = highest-rises (ends + 1) (max from (get_or work ends 0)) j j' (omega arith)
+  highest_rises ends from zero j' h = highest_from ends from j'
+  highest_rises ends from (suc j) zero h = absurd (omega arith)
+  highest_rises ends from (suc j) (suc j') h = highest_rises (ends + 1) (max from (get_or work ends 0)) j j' (omega arith)
 
-  pub highest-above : (ends from j i : ℕ) → i < j → get_or work (ends + i) 0 ≤ highest work ends from j
+  pub highest_above : (ends from j i : ℕ) → i < j → get_or work (ends + i) 0 ≤ highest work ends from j
   unfolding highest
-  highest-above ends from zero i h = absurd (omega arith)
-  highest-above ends from (suc j) zero h =
-      rw add-zero (let rest = highest-from (ends + 1) (max from (get_or work ends 0)) j in omega arith)
-  highest-above ends from (suc j) (suc i) h =
+  highest_above ends from zero i h = absurd (omega arith)
+  highest_above ends from (suc j) zero h =
+      rw add-zero (let rest = highest_from (ends + 1) (max from (get_or work ends 0)) j in omega arith)
+  highest_above ends from (suc j) (suc i) h =
       let one_more : ends + suc i ≡ ends + 1 + i = omega arith in
-      rw one_more (highest-above (ends + 1) (max from (get_or work ends 0)) j i (omega arith))
+      rw one_more (highest_above (ends + 1) (max from (get_or work ends 0)) j i (omega arith))
 
-  pub highest-most : (ends from j most : ℕ) → from ≤ most
+  pub highest_most : (ends from j most : ℕ) → from ≤ most
       → ((i : ℕ) → i < j → get_or work (ends + i) 0 ≤ most) → highest work ends from j ≤ most
   unfolding highest
-  highest-most ends from zero most h all = h
-  highest-most ends from (suc j) most h all =
+  highest_most ends from zero most h all = h
+  highest_most ends from (suc j) most h all =
       let first : get_or work ends 0 ≤ most = rw add-zero at (all 0 (omega arith)) in
       let one_more : (i : ℕ) → ends + suc i ≡ ends + 1 + i = λ i. omega arith in
-      highest-most (ends + 1) (max from (get_or work ends 0)) j most (omega arith)
+      highest_most (ends + 1) (max from (get_or work ends 0)) j most (omega arith)
       (λ i g. rw (one_more i) at (all (suc i) (omega arith)))
 
 -- ---- the least weights of a number of steps

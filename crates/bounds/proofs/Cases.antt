@@ -6,7 +6,7 @@ use mathlib.Core.Path.{◌≡◌, sym, ◌∙◌}
 use mathlib.Core.Bool.{not, cond}
 use mathlib.Core.List.{List}
 use lib.Dec.{T, leb, ltb, leb→le, lt→ltb, ltb→lt, not_T}
-use Rattle.lists.proofs.Choices.{cond-true, cond-false}
+use Rattle.lists.proofs.Choices.{cond_true, cond_false}
 use Rattle.bounds.specs.declared.Chain.{Chain}
 use Rattle.bounds.specs.Model.Tables.{start_at, end_at, next_length, beginning, following}
 
@@ -19,16 +19,16 @@ ltb_fails m n h = not_T (ltb m n) (λ t. let k = ltb→lt m n t in absurd (omega
 -- ---- the first event to look at
 
 module _ (work : List ℕ) (at room : ℕ) (begun : Chain) where
-  pub beginning-full : room < at → end_at work ≡ beginning work at room begun
+  pub beginning_full : room < at → end_at work ≡ beginning work at room begun
   unfolding beginning
-  beginning-full h =
-      sym (cond-true (ltb room at) (end_at work) (next_length work begun.steps begun.budget 1) (lt→ltb room at h))
+  beginning_full h =
+      sym (cond_true (ltb room at) (end_at work) (next_length work begun.steps begun.budget 1) (lt→ltb room at h))
 
   pub beginning-found : (r : ℕ) → at ≤ room
       → r ≡ next_length work begun.steps begun.budget 1 → r ≡ beginning work at room begun
   unfolding beginning
   beginning-found r h e =
-      e ∙ sym (cond-false (ltb room at) (end_at work) (next_length work begun.steps begun.budget 1) (ltb_fails room at h))
+      e ∙ sym (cond_false (ltb room at) (end_at work) (next_length work begun.steps begun.budget 1) (ltb_fails room at h))
 
 -- ---- the event to look at after another
 
@@ -36,24 +36,24 @@ module _ (work : List ℕ) (at room : ℕ) (begun : Chain) (l k : ℕ) where
   later : ℕ
   later = cond (ltb (k + 1) (start_at work (l + 1))) (k + 1) (next_length work begun.steps begun.budget (l + 1))
 
-  pub following-full : room < at → end_at work ≡ following work at room begun l k
+  pub following_full : room < at → end_at work ≡ following work at room begun l k
   unfolding following later
-  following-full h = sym (cond-true (ltb room at) (end_at work) later (lt→ltb room at h))
+  following_full h = sym (cond_true (ltb room at) (end_at work) later (lt→ltb room at h))
 
   following-room : at ≤ room → later ≡ following work at room begun l k
   unfolding following later
-  following-room h = sym (cond-false (ltb room at) (end_at work) later (ltb_fails room at h))
+  following-room h = sym (cond_false (ltb room at) (end_at work) later (ltb_fails room at h))
 
   pub following-next : at ≤ room → k + 1 < start_at work (l + 1) → k + 1 ≡ following work at room begun l k
   unfolding later
   following-next h g =
-      sym (cond-true (ltb (k + 1) (start_at work (l + 1))) (k + 1)
+      sym (cond_true (ltb (k + 1) (start_at work (l + 1))) (k + 1)
       (next_length work begun.steps begun.budget (l + 1)) (lt→ltb _ _ g)) ∙ following-room h
 
-  pub following-longer : (r : ℕ) → at ≤ room → start_at work (l + 1) ≤ k + 1
+  pub following_longer : (r : ℕ) → at ≤ room → start_at work (l + 1) ≤ k + 1
       → r ≡ next_length work begun.steps begun.budget (l + 1)
       → r ≡ following work at room begun l k
   unfolding later
-  following-longer r h g e =
-      e ∙ sym (cond-false (ltb (k + 1) (start_at work (l + 1))) (k + 1)
+  following_longer r h g e =
+      e ∙ sym (cond_false (ltb (k + 1) (start_at work (l + 1))) (k + 1)
       (next_length work begun.steps begun.budget (l + 1)) (ltb_fails _ _ g)) ∙ following-room h

@@ -85,29 +85,29 @@ module _ (work : List ℕ) (begun : Chain) (e : Event) where
   decided-continued = verdict_continued fits ending spent enough
 
   -- an event that is joined fits
-  pub decided-fits : decided work begun e ≢ skipped → (e.length ≤ begun.steps) × (e.weight ≤ begun.budget)
+  pub decided_fits : decided work begun e ≢ skipped → (e.length ≤ begun.steps) × (e.weight ≤ begun.budget)
   unfolding decided
-  decided-fits n₀ = fit_parts (verdict_fits fits ending spent enough n₀)
+  decided_fits n₀ = fit_parts (verdict_fits fits ending spent enough n₀)
 
   -- it ends a chain in one of two ways
-  pub ending-parts : T ending → T whole ⊎ (T (not whole) × T spare)
-  ending-parts = by whole
+  pub ending_parts : T ending → T whole ⊎ (T (not whole) × T spare)
+  ending_parts = by whole
     where
       by : (b : Bool) → T (b || spare) → T b ⊎ (T (not b) × T spare)
       by true t = inl tt
       by false t = inr (tt, t)
 
-  pub not-whole : T (not ending) → T (not whole)
-  not-whole = by whole
+  pub not_whole : T (not ending) → T (not whole)
+  not_whole = by whole
     where
       by : (b : Bool) → T (not (b || spare)) → T (not b)
       by true t = t
       by false t = tt
 
   -- and leaves some steps where more follow
-  pub decided-shorter : decided work begun e ≢ skipped → decided work begun e ≢ complete → e.length < begun.steps
-  decided-shorter n₀ n₁ =
-      let f = (decided-fits n₀).0 in
+  pub decided_shorter : decided work begun e ≢ skipped → decided work begun e ≢ complete → e.length < begun.steps
+  decided_shorter n₀ n₁ =
+      let f = (decided_fits n₀).0 in
       let n : e.length ≢ begun.steps =
-      λ q. T_not whole (not-whole (decided-continued n₀ n₁).1.0) (eqb_passes e.length begun.steps q) in
+      λ q. T_not whole (not_whole (decided-continued n₀ n₁).1.0) (eqb_passes e.length begun.steps q) in
       lt_of_le-ne f n

@@ -104,27 +104,27 @@ module _ (table : List Event) (n k from to : ℕ) (work : List ℕ) (ok : Notewo
   abbrev survey : List ℕ
   survey = surveyed table n k (opened to work)
 
-  survey-bits : bits_at survey ≡ bits_at work
-  survey-bits =
+  survey_bits : bits_at survey ≡ bits_at work
+  survey_bits =
       kept (surveyed_keeps table n k _ ok) bits_cell tt 0 (omega arith) ∙ kept (opened_keeps to work) bits_cell tt 0 (omega arith)
 
-  state-keeps : Keeps (fills ∷ starts ∷ []) survey (closed from survey)
-  state-keeps = let e = survey-bits in closed_keeps from survey (omega arith)
+  state_keeps : Keeps (fills ∷ starts ∷ []) survey (closed from survey)
+  state_keeps = let e = survey_bits in closed_keeps from survey (omega arith)
 
-  pub length-survives : length (closed from survey) ≡ length work
-  length-survives = state-keeps.size ∙ (surveyed_keeps table n k _ ok).size ∙ (opened_keeps to work).size
+  pub length_survives : length (closed from survey) ≡ length work
+  length_survives = state_keeps.size ∙ (surveyed_keeps table n k _ ok).size ∙ (opened_keeps to work).size
 
-  pub firstOf-survives : (i : ℕ) → i ≤ state_count → first_of (closed from survey) i ≡ first_of work i
-  firstOf-survives i h =
-      kept state-keeps firsts tt i (omega arith) ∙ kept (surveyed_keeps table n k _ ok) firsts tt i (omega arith)
+  pub first_of_survives : (i : ℕ) → i ≤ state_count → first_of (closed from survey) i ≡ first_of work i
+  first_of_survives i h =
+      kept state_keeps firsts tt i (omega arith) ∙ kept (surveyed_keeps table n k _ ok) firsts tt i (omega arith)
       ∙ kept (opened_keeps to work) firsts tt i (omega arith)
 
-  pub wholeAt-survives : (i : ℕ) → i < state_count → whole_at (closed from survey) i ≡ whole_at work i
-  wholeAt-survives i h =
-      kept state-keeps wholes tt i h ∙ kept (surveyed_keeps table n k _ ok) wholes tt i h ∙ kept (opened_keeps to work) wholes tt i h
+  pub whole_at_survives : (i : ℕ) → i < state_count → whole_at (closed from survey) i ≡ whole_at work i
+  whole_at_survives i h =
+      kept state_keeps wholes tt i h ∙ kept (surveyed_keeps table n k _ ok) wholes tt i h ∙ kept (opened_keeps to work) wholes tt i h
 
-  pub bitsAt-survives : bits_at (closed from survey) ≡ bits_at work
-  bitsAt-survives = kept state-keeps bits_cell tt 0 (omega arith) ∙ survey-bits
+  pub bits_at_survives : bits_at (closed from survey) ≡ bits_at work
+  bits_at_survives = kept state_keeps bits_cell tt 0 (omega arith) ∙ survey_bits
 
 -- ---- sums are small
 

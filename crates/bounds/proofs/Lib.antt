@@ -10,5 +10,4 @@ pub mod Ready
 pub mod States
 pub mod Looked
 pub mod Weighed
-pub mod Plains
 pub mod Wholes

@@ -13,7 +13,7 @@ use Rattle.events.specs.declared.Event.{Event}
 use Rattle.events.specs.Events.{no_event}
 use Rattle.bounds.specs.Model.Places.{Region}
 use Rattle.bounds.proofs.Survey.{LastOf}
-use Rattle.bounds.proofs.Carried.{highest, highest-above, highest-most}
+use Rattle.bounds.proofs.Carried.{highest, highest_above, highest_most}
 
 pub lt_or_ge : (a b : ℕ) → (a < b) ⊎ (b ≤ a)
 lt_or_ge a b = ⊎_elim (λ t. inl (ltb→lt a b t)) (λ t. inr (nltb→le a b t)) (passes_or_fails (ltb a b))
@@ -47,16 +47,16 @@ module _ (table : List Event) (key : Event → ℕ) (r : Region) (from to : ℕ)
       (marks.only i (omega arith))
 
   pub place_at : (k : ℕ) → from ≤ k → k < to → highest work r.start from (key (get_or table k no_event)) ≤ k
-  place_at k h g = highest-most work r.start from (key (get_or table k no_event)) k h (λ i less. earlier k i h g less)
+  place_at k h g = highest_most work r.start from (key (get_or table k no_event)) k h (λ i less. earlier k i h g less)
 
   pub place_after : (k : ℕ) → from ≤ k → k < to → k < highest work r.start from (key (get_or table k no_event) + 1)
   place_after k h g =
       let a = marks.after k h g in
-      let b = highest-above work r.start from (key (get_or table k no_event) + 1) (key (get_or table k no_event)) (omega arith) in
+      let b = highest_above work r.start from (key (get_or table k no_event) + 1) (key (get_or table k no_event)) (omega arith) in
       omega arith
 
-  pub places-end : (j : ℕ) → j ≤ r.size → from ≤ to → highest work r.start from j ≤ to
-  places-end j h le = highest-most work r.start from j to le (λ i less. ⊎_elim
+  pub places_end : (j : ℕ) → j ≤ r.size → from ≤ to → highest work r.start from j ≤ to
+  places_end j h le = highest_most work r.start from j to le (λ i less. ⊎_elim
       (λ (none : get_or work (r.start + i) 0 ≡ 0). omega arith)
       (λ (l : LastOf table key from to i (get_or work (r.start + i) 0)). let a = l.next in let b = l.before in omega arith)
       (marks.only i (omega arith)))

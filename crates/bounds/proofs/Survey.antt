@@ -30,53 +30,53 @@ module _ (work : List ℕ) (e : Event) (after : ℕ) (fit : Fits e) (room : area
   weighed = set placed (least_place + e.length) (min e.weight (least_at placed e.length))
 
   -- what each of the three stores keeps
-  first-keeps : Keeps (state_ends ∷ []) work first
-  first-keeps =
+  first_keeps : Keeps (state_ends ∷ []) work first
+  first_keeps =
       let h : e.state < state_ends.size =
       fit.state_small in keeps_set work (state_end_place + e.state) after (inl (omega arith, omega arith))
 
-  second-keeps : Keeps (length_ends ∷ []) first placed
-  second-keeps =
+  second_keeps : Keeps (length_ends ∷ []) first placed
+  second_keeps =
       let h : e.length ≤ most_steps =
       fit.length_small in keeps_set first (length_end_place + e.length) after (inl (omega arith, omega arith))
 
-  third-keeps : Keeps (leasts ∷ []) placed weighed
-  third-keeps =
+  third_keeps : Keeps (leasts ∷ []) placed weighed
+  third_keeps =
       let h : e.length ≤ most_steps =
       fit.length_small in keeps_set placed (least_place + e.length) _ (inl (omega arith, omega arith))
 
-  pub noted-state : get_or (noted work e after) (state_end_place + e.state) 0 ≡ after
+  pub noted_state : get_or (noted work e after) (state_end_place + e.state) 0 ≡ after
   unfolding noted
-  noted-state =
+  noted_state =
       let s : e.state < state_ends.size = fit.state_small in
-      kept third-keeps state_ends tt e.state s ∙ kept second-keeps state_ends tt e.state s
+      kept third_keeps state_ends tt e.state s ∙ kept second_keeps state_ends tt e.state s
       ∙ get_or-set_same work (state_end_place + e.state) after 0 (omega arith)
 
-  pub noted-other-state : (i : ℕ) → i < state_ends.size → i ≢ e.state
+  pub noted_other_state : (i : ℕ) → i < state_ends.size → i ≢ e.state
       → get_or (noted work e after) (state_end_place + i) 0 ≡ get_or work (state_end_place + i) 0
   unfolding noted
-  noted-other-state i h n =
-      kept third-keeps state_ends tt i h ∙ kept second-keeps state_ends tt i h ∙ get_or-set_other work (state_end_place + e.state)
+  noted_other_state i h n =
+      kept third_keeps state_ends tt i h ∙ kept second_keeps state_ends tt i h ∙ get_or-set_other work (state_end_place + e.state)
       (state_end_place + i) after 0 (λ q. n (omega arith))
 
   pub noted-length : get_or (noted work e after) (length_end_place + e.length) 0 ≡ after
   unfolding noted
   noted-length =
       let l : e.length ≤ most_steps = fit.length_small in
-      let size = first-keeps.size in
-      kept third-keeps length_ends tt e.length (omega arith)
+      let size = first_keeps.size in
+      kept third_keeps length_ends tt e.length (omega arith)
       ∙ get_or-set_same first (length_end_place + e.length) after 0 (omega arith)
 
-  pub noted-other-length : (i : ℕ) → i < length_ends.size → i ≢ e.length
+  pub noted_other_length : (i : ℕ) → i < length_ends.size → i ≢ e.length
       → get_or (noted work e after) (length_end_place + i) 0 ≡ get_or work (length_end_place + i) 0
   unfolding noted
-  noted-other-length i h n =
-      kept third-keeps length_ends tt i h ∙ get_or-set_other first (length_end_place + e.length)
+  noted_other_length i h n =
+      kept third_keeps length_ends tt i h ∙ get_or-set_other first (length_end_place + e.length)
       (length_end_place + i) after 0 (λ q. n (omega arith))
-      ∙ kept first-keeps length_ends tt i h
+      ∙ kept first_keeps length_ends tt i h
 
-  placed-least : (i : ℕ) → i ≤ most_steps → least_at placed i ≡ least_at work i
-  placed-least i h = kept second-keeps leasts tt i (omega arith) ∙ kept first-keeps leasts tt i (omega arith)
+  placed_least : (i : ℕ) → i ≤ most_steps → least_at placed i ≡ least_at work i
+  placed_least i h = kept second_keeps leasts tt i (omega arith) ∙ kept first_keeps leasts tt i (omega arith)
 
   -- a smaller number stored leaves no number larger
   set-min : (l : List ℕ) (i j x : ℕ) → get_or (set l i (min x (get_or l i 0))) j 0 ≤ get_or l j 0
@@ -86,18 +86,18 @@ module _ (work : List ℕ) (e : Event) (after : ℕ) (fit : Fits e) (room : area
   set-min (y ∷ l) (suc i) zero x = omega arith
   set-min (y ∷ l) (suc i) (suc j) x = set-min l i j x
 
-  pub noted-falls : (i : ℕ) → i ≤ most_steps → least_at (noted work e after) i ≤ least_at work i
+  pub noted_falls : (i : ℕ) → i ≤ most_steps → least_at (noted work e after) i ≤ least_at work i
   unfolding noted
-  noted-falls i h =
-      let same = placed-least i h in
+  noted_falls i h =
+      let same = placed_least i h in
       let falls : least_at weighed i ≤ least_at placed i = set-min placed (least_place + e.length) (least_place + i) e.weight in
       omega arith
 
-  pub noted-weighs : least_at (noted work e after) e.length ≤ e.weight
+  pub noted_weighs : least_at (noted work e after) e.length ≤ e.weight
   unfolding noted
-  noted-weighs =
+  noted_weighs =
       let l : e.length ≤ most_steps = fit.length_small in
-      let size : length placed ≡ length work = second-keeps.size ∙ first-keeps.size in
+      let size : length placed ≡ length work = second_keeps.size ∙ first_keeps.size in
       let is : least_at weighed e.length ≡ min e.weight (least_at placed e.length) =
       get_or-set_same placed (least_place + e.length) _ 0 (omega arith) in
       omega arith
@@ -112,7 +112,7 @@ pub record Key (r : Region) (key : Event → ℕ) : Type 0 where
       → get_or (noted work e after) (r.start + i) 0 ≡ get_or work (r.start + i) 0
 
 pub state_key : Key state_ends (λ e. e.state)
-state_key = record { below = λ e fit. fit.state_small; same = noted-state; other = noted-other-state }
+state_key = record { below = λ e fit. fit.state_small; same = noted_state; other = noted_other_state }
 
 pub length_key : Key length_ends (λ e. e.length)
 length_key =
@@ -120,7 +120,7 @@ length_key =
       below = λ e fit. let h : e.length ≤ most_steps = fit.length_small in
           omega arith;
       same = noted-length;
-      other = noted-other-length;
+      other = noted_other_length;
     }
 
 -- an event of the key i whose next place is x
@@ -133,19 +133,19 @@ pub record LastOf (table : List Event) (key : Event → ℕ) (from to i x : ℕ)
 
 module _ (r : Region) (key : Event → ℕ) (laws : Key r key) (table : List Event) where
   -- a number is as it was, or the place after an event of its key
-  pub survey-last : (n k : ℕ) (work : List ℕ) (i : ℕ) → area_size ≤ length work → Noteworthy table n k → i < r.size
+  pub survey_last : (n k : ℕ) (work : List ℕ) (i : ℕ) → area_size ≤ length work → Noteworthy table n k → i < r.size
       → (get_or (surveyed table n k work) (r.start + i) 0 ≡ get_or work (r.start + i) 0) ⊎ LastOf table key k (k + n) i
       (get_or (surveyed table n k work) (r.start + i) 0)
   unfolding surveyed
-  survey-last zero k work i room ok h = inl refl
-  survey-last (suc n) k work i room ok h =
+  survey_last zero k work i room ok h = inl refl
+  survey_last (suc n) k work i room ok h =
       let e : Event = get_or table k no_event in
       let fit : Fits e = ok k (omega arith) (omega arith) in
       let next : List ℕ = noted work e (k + 1) in
       let size : length next ≡ length work = (noted_keeps work e (k + 1) fit).size in
       let value : ℕ = get_or (surveyed table n (k + 1) next) (r.start + i) 0 in
       let later : (value ≡ get_or next (r.start + i) 0) ⊎ LastOf table key (k + 1) (k + 1 + n) i value =
-      survey-last n (k + 1) next i (omega arith) (later_noteworthy table n k ok) h in
+      survey_last n (k + 1) next i (omega arith) (later_noteworthy table n k ok) h in
       ⊎_elim
       (λ (q : value ≡ get_or next (r.start + i) 0). elim (ℕ_discrete i (key e)) [
         | yes is ↦ inr (record {
@@ -164,11 +164,11 @@ module _ (r : Region) (key : Event → ℕ) (laws : Key r key) (table : List Eve
       later
 
   -- a noted event stands before the number of its key
-  pub survey-after : (n k : ℕ) (work : List ℕ) (j : ℕ) → area_size ≤ length work → Noteworthy table n k → k ≤ j → j < k + n
+  pub survey_after : (n k : ℕ) (work : List ℕ) (j : ℕ) → area_size ≤ length work → Noteworthy table n k → k ≤ j → j < k + n
       → j < get_or (surveyed table n k work) (r.start + key (get_or table j no_event)) 0
   unfolding surveyed
-  survey-after zero k work j room ok h g = absurd (omega arith)
-  survey-after (suc n) k work j room ok h g =
+  survey_after zero k work j room ok h g = absurd (omega arith)
+  survey_after (suc n) k work j room ok h g =
       let e : Event = get_or table k no_event in
       let fit : Fits e = ok k (omega arith) (omega arith) in
       let next : List ℕ = noted work e (k + 1) in
@@ -179,9 +179,9 @@ module _ (r : Region) (key : Event → ℕ) (laws : Key r key) (table : List Eve
             let reached : k < value = ⊎_elim
             (λ (q : value ≡ get_or next (r.start + key e) 0). let s = laws.same work e (k + 1) fit room in omega arith)
             (λ (l : LastOf table key (k + 1) (k + 1 + n) (key e) value). let a = l.not_before in let b = l.next in omega arith)
-            (survey-last n (k + 1) next (key e) (omega arith) (later_noteworthy table n k ok) (laws.below e fit)) in
+            (survey_last n (k + 1) next (key e) (omega arith) (later_noteworthy table n k ok) (laws.below e fit)) in
             subst (λ (x : ℕ). x < get_or (surveyed table n (k + 1) next) (r.start + key (get_or table x no_event)) 0) (sym is) reached
-        | no apart ↦ survey-after n (k + 1) next j (omega arith) (later_noteworthy table n k ok) (omega arith) (omega arith)
+        | no apart ↦ survey_after n (k + 1) next j (omega arith) (later_noteworthy table n k ok) (omega arith) (omega arith)
       ]
 
 -- ---- least weights
@@ -196,7 +196,7 @@ survey_falls table (suc n) k work i room ok h =
     let fit : Fits e = ok k (omega arith) (omega arith) in
     let next : List ℕ = noted work e (k + 1) in
     let size : length next ≡ length work = (noted_keeps work e (k + 1) fit).size in
-    let first = noted-falls work e (k + 1) fit room i h in
+    let first = noted_falls work e (k + 1) fit room i h in
     let rest = survey_falls table n (k + 1) next i (omega arith) (later_noteworthy table n k ok) h in
     omega arith
 
@@ -212,7 +212,7 @@ survey_weighs table (suc n) k work j room ok h g =
     let size : length next ≡ length work = (noted_keeps work e (k + 1) fit).size in
     elim (ℕ_discrete j k) [
       | yes is ↦
-          let first = noted-weighs work e (k + 1) fit room in
+          let first = noted_weighs work e (k + 1) fit room in
           let rest = survey_falls table n (k + 1) next e.length (omega arith)
           (later_noteworthy table n k ok) fit.length_small in
           let both : least_at (surveyed table n (k + 1) next) e.length ≤ e.weight = omega arith in
@@ -281,21 +281,21 @@ module _ (end : ℕ) (work : List ℕ) (room : area_size ≤ length work) where
   abbrev ended : List ℕ
   ended = set work end_place end
 
-  size-ended : area_size ≤ length ended
-  size-ended = let s = length-set work end_place end in omega arith
+  size_ended : area_size ≤ length ended
+  size_ended = let s = length-set work end_place end in omega arith
 
-  pub opened-least : (j : ℕ) → j ≤ most_steps → least_at (opened end work) j ≤ too_heavy
+  pub opened_least : (j : ℕ) → j ≤ most_steps → least_at (opened end work) j ≤ too_heavy
   unfolding opened
-  opened-least j h = reset_least length_count 0 ended j size-ended (omega arith) (omega arith) (omega arith)
+  opened_least j h = reset_least length_count 0 ended j size_ended (omega arith) (omega arith) (omega arith)
 
-  pub opened-ends : (j : ℕ) → j ≤ most_steps → get_or (opened end work) (length_end_place + j) 0 ≡ 0
+  pub opened_ends : (j : ℕ) → j ≤ most_steps → get_or (opened end work) (length_end_place + j) 0 ≡ 0
   unfolding opened
-  opened-ends j h =
-      let none = reset_ends length_count 0 ended j size-ended (omega arith) (omega arith) (omega arith) in omega arith
+  opened_ends j h =
+      let none = reset_ends length_count 0 ended j size_ended (omega arith) (omega arith) (omega arith) in omega arith
 
-  pub opened-end : end_at (opened end work) ≡ end
+  pub opened_end : end_at (opened end work) ≡ end
   unfolding opened
-  opened-end =
+  opened_end =
       kept (reset_from_keeps length_count 0 ended (omega arith)) end_cell tt 0 (omega arith)
       ∙ get_or-set_same work end_place end 0 (omega arith)
 
@@ -315,7 +315,7 @@ small_opened table n k end work ok room few fill =
       enough = omega arith;
       bits_small = omega arith;
       least_small = λ l h. let a = survey_falls table n k ready l (omega arith) ok h in
-          let b = opened-least end work room l h in omega arith;
+          let b = opened_least end work room l h in omega arith;
       fill_small = λ i h. let a = kept noting fills tt i (omega arith) in let b = kept opening fills tt i
           (omega arith) in let c = fill i h in omega arith;
     }

@@ -17,25 +17,25 @@ module _ (work : List ℕ) (i : ℕ) (inside : i < state_count) where
   unfolding whole_kept
   keeps = keeps_set work (whole_place + i) (fill_at work (bits_at work)) (inl (omega arith, omega arith))
 
-  pub length-kept : length (whole_kept i work) ≡ length work
-  length-kept = keeps.size
+  pub length_kept : length (whole_kept i work) ≡ length work
+  length_kept = keeps.size
 
-  pub bits-kept : bits_at (whole_kept i work) ≡ bits_at work
-  bits-kept = kept keeps bits_cell tt 0 (omega arith)
+  pub bits_kept : bits_at (whole_kept i work) ≡ bits_at work
+  bits_kept = kept keeps bits_cell tt 0 (omega arith)
 
-  pub first-kept : (j : ℕ) → j ≤ state_count → first_of (whole_kept i work) j ≡ first_of work j
-  first-kept j h = kept keeps firsts tt j (omega arith)
+  pub first_kept : (j : ℕ) → j ≤ state_count → first_of (whole_kept i work) j ≡ first_of work j
+  first_kept j h = kept keeps firsts tt j (omega arith)
 
-  pub fill-kept : (k : ℕ) → k ≤ most_steps → fill_at (whole_kept i work) k ≡ fill_at work k
-  fill-kept k h = kept keeps fills tt k (omega arith)
+  pub fill_kept : (k : ℕ) → k ≤ most_steps → fill_at (whole_kept i work) k ≡ fill_at work k
+  fill_kept k h = kept keeps fills tt k (omega arith)
 
   pub whole_same : area_size ≤ length work → whole_at (whole_kept i work) i ≡ fill_at work (bits_at work)
   unfolding whole_kept
   whole_same h = get_or-set_same work (whole_place + i) (fill_at work (bits_at work)) 0 (omega arith)
 
-  pub whole-other : (j : ℕ) → j ≢ i → whole_at (whole_kept i work) j ≡ whole_at work j
+  pub whole_other : (j : ℕ) → j ≢ i → whole_at (whole_kept i work) j ≡ whole_at work j
   unfolding whole_kept
-  whole-other j n = get_or-set_other work (whole_place + i) (whole_place + j) (fill_at work (bits_at work)) 0 (λ e. n (same j i e))
+  whole_other j n = get_or-set_other work (whole_place + i) (whole_place + j) (fill_at work (bits_at work)) 0 (λ e. n (same j i e))
     where
       same : (x y : ℕ) → whole_place + x ≡ whole_place + y → x ≡ y
       same x y e = omega arith

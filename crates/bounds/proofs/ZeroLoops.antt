@@ -9,7 +9,7 @@ use mathlib.Core.Logic.{◌≢◌}
 use mathlib.Core.List.{List}
 use lib.Dec.{T, eqb, eqb→eq}
 use Rattle.lists.proofs.Tests.{T_and}
-use Rattle.lists.proofs.Choices.{eqb_passes, eqb_fails, cond-true, cond-false}
+use Rattle.lists.proofs.Choices.{eqb_passes, eqb_fails, cond_true, cond_false}
 use Rattle.events.specs.declared.Event.{Event}
 use Rattle.bounds.specs.Model.Places.{length_count, too_heavy}
 use Rattle.bounds.specs.Model.Tables.{least_at, start_at, is_zero_loop, lightest, light_of}
@@ -53,25 +53,25 @@ module _ (e : Event) where
   pub record ZeroLoop : Type 0 where
     pub one_step : e.length ≡ 1
     pub no_weight : e.weight ≡ 0
-    pub no-low : e.low ≡ 0
-    pub no-high : e.high ≡ 0
+    pub no_low : e.low ≡ 0
+    pub no_high : e.high ≡ 0
 
-  pub zero-loop : T (is_zero_loop e) → ZeroLoop
+  pub zero_loop : T (is_zero_loop e) → ZeroLoop
   unfolding is_zero_loop
-  zero-loop t =
+  zero_loop t =
       let a = (T_and (eqb e.length 1) (eqb e.weight 0 && (eqb e.low 0 && eqb e.high 0))).0 t in
       let b = (T_and (eqb e.weight 0) (eqb e.low 0 && eqb e.high 0)).0 a.1 in
       let c = (T_and (eqb e.low 0) (eqb e.high 0)).0 b.1 in
       record {
         one_step = eqb→eq e.length 1 a.0;
         no_weight = eqb→eq e.weight 0 b.0;
-        no-low = eqb→eq e.low 0 c.0;
-        no-high = eqb→eq e.high 0 c.1;
+        no_low = eqb→eq e.low 0 c.0;
+        no_high = eqb→eq e.high 0 c.1;
       }
 
   pub loop-told : ZeroLoop → T (is_zero_loop e)
   loop-told z =
-      subst T (loop-high z.one_step z.no_weight z.no-low) (eqb_passes e.high 0 z.no-high)
+      subst T (loop-high z.one_step z.no_weight z.no_low) (eqb_passes e.high 0 z.no_high)
 
 -- ---- the least weight of the longer ones
 
@@ -106,33 +106,33 @@ lightest_end work l least h e = e ∙ ap (λ (x : ℕ). lightest work (x - 2)) h
 -- ---- what the code tells of them
 
 module _ (work : List ℕ) (e : Event) (from : ℕ) where
-  pub light-told : {b : Bool} → b ≡ is_zero_loop e → b ≡ true → start_at work 2 ≡ from + 1 → lightest work (length_count - 2) ≡ light_of work e from
+  pub light_told : {b : Bool} → b ≡ is_zero_loop e → b ≡ true → start_at work 2 ≡ from + 1 → lightest work (length_count - 2) ≡ light_of work e from
   unfolding light_of
-  light-told is so s =
-      sym (cond-true (is_zero_loop e && eqb (start_at work 2) (from + 1)) (lightest work (length_count - 2)) 0
+  light_told is so s =
+      sym (cond_true (is_zero_loop e && eqb (start_at work 2) (from + 1)) (lightest work (length_count - 2)) 0
       ((T_and (is_zero_loop e) (eqb (start_at work 2) (from + 1))).1 (subst T (sym so ∙ is) tt, eqb_passes (start_at work 2) (from + 1) s)))
 
-  pub light-two : start_at work 2 ≢ from + 1 → 0 ≡ light_of work e from
+  pub light_two : start_at work 2 ≢ from + 1 → 0 ≡ light_of work e from
   unfolding light_of
-  light-two s = sym (cond-false (is_zero_loop e && eqb (start_at work 2) (from + 1)) (lightest work (length_count - 2)) 0 (none (is_zero_loop e)))
+  light_two s = sym (cond_false (is_zero_loop e && eqb (start_at work 2) (from + 1)) (lightest work (length_count - 2)) 0 (none (is_zero_loop e)))
     where
       none : (b : Bool) → T (not (b && eqb (start_at work 2) (from + 1)))
       none true = eqb_fails (start_at work 2) (from + 1) s
       none false = tt
 
-  pub light-other : {b : Bool} → b ≡ is_zero_loop e → b ≡ false → 0 ≡ light_of work e from
+  pub light_other : {b : Bool} → b ≡ is_zero_loop e → b ≡ false → 0 ≡ light_of work e from
   unfolding light_of
-  light-other is not_so =
+  light_other is not_so =
       sym (ap (λ (b : Bool). cond (b && eqb (start_at work 2) (from + 1)) (lightest work (length_count - 2)) 0) (sym is ∙ not_so))
 
   -- where it tells something
-  pub light-means : 1 ≤ light_of work e from → ZeroLoop e × ((start_at work 2 ≡ from + 1) × (light_of work e from ≡ lightest work (length_count - 2)))
+  pub light_means : 1 ≤ light_of work e from → ZeroLoop e × ((start_at work 2 ≡ from + 1) × (light_of work e from ≡ lightest work (length_count - 2)))
   unfolding light_of
-  light-means h = by (is_zero_loop e && eqb (start_at work 2) (from + 1)) (λ t. t) h
+  light_means h = by (is_zero_loop e && eqb (start_at work 2) (from + 1)) (λ t. t) h
     where
       by : (b : Bool) → (T b → T (is_zero_loop e && eqb (start_at work 2) (from + 1))) → 1 ≤ cond b (lightest work (length_count - 2)) 0
           → ZeroLoop e × ((start_at work 2 ≡ from + 1) × (cond b (lightest work (length_count - 2)) 0 ≡ lightest work (length_count - 2)))
       by true t h =
           let a = (T_and (is_zero_loop e) (eqb (start_at work 2) (from + 1))).0 (t tt) in
-          (zero-loop e a.0, (eqb→eq (start_at work 2) (from + 1) a.1, refl))
+          (zero_loop e a.0, (eqb→eq (start_at work 2) (from + 1) a.1, refl))
       by false t h = absurd (omega arith)

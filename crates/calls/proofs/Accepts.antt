@@ -17,7 +17,7 @@ use Rattle.order.specs.Answers.{order_in}
 use Rattle.order.specs.Model.Accepted.{Accepted, AcceptedAs, AcceptedDegree}
 use Rattle.order.proofs.Lengths.{no_longer_with, accepted_longer}
 use Rattle.order.proofs.FirstNo.{asked, none_in_parts}
-use Rattle.order.proofs.Asked.{numbered-order, order_shaped, accepted_as, room-told}
+use Rattle.order.proofs.Asked.{numbered_order, order_shaped, accepted_as, room-told}
 use Rattle.lengths.specs.declared.Shorter.{Shorter}
 use Rattle.jobs.specs.declared.Job.{Job}
 use Rattle.jobs.specs.declared.Job.TheVariants as J
@@ -40,9 +40,9 @@ module _ (o : Order) (accepted : Accepted o) (s : Shorter) (plain undetected wor
   abbrev Rooms : Job → Type 0
   Rooms job = JobAsks job s o plain undetected × (work_size ≤ nw)
 
-  pub chosen-rooms : AcceptedDegree o → first_no (job_questions J.Choose o.m (o.d - 1) nc nu nw) ≡ 0 → ToChooseFor o plain undetected × (work_size ≤ nw)
+  pub chosen_rooms : AcceptedDegree o → first_no (job_questions J.Choose o.m (o.d - 1) nc nu nw) ≡ 0 → ToChooseFor o plain undetected × (work_size ≤ nw)
   unfolding job_questions
-  chosen-rooms degree e =
+  chosen_rooms degree e =
       let first = room-told _ _ _ e in
       let second = room-told _ _ _ first.1 in
       (record { list = record { order = accepted; plain_room = first.0 }; whole = record { order = accepted; degree = degree }; undetected_room = second.0 }, (room-told _ _ _ second.1).0)
@@ -51,11 +51,11 @@ module _ (o : Order) (accepted : Accepted o) (s : Shorter) (plain undetected wor
   unfolding job_questions JobAsks
   rooms J.Collect taken degree is e = (tt, (room-told _ _ _ e).0)
   rooms J.List taken degree is e = let first = room-told _ _ _ e in (record { order = accepted; plain_room = first.0 }, (room-told _ _ _ first.1).0)
-  rooms J.Choose taken degree is e = chosen-rooms (degree is) e
+  rooms J.Choose taken degree is e = chosen_rooms (degree is) e
   rooms J.ChooseFor taken degree is e = absurd is
   rooms (J.Count p) taken degree is e =
       let parts = none_in_parts (job_questions J.Choose o.m (o.d - 1) nc nu nw) (check_polynomial o.m p ∷ []) tt e in
-      let told = chosen-rooms (degree is) parts.0 in
+      let told = chosen_rooms (degree is) parts.0 in
       let eleven = both (eqb (p / 2 ^ o.m) 1) (eqb (bit 0 p) 1) (asked 11 (check_polynomial o.m p ∷ []) tt parts.1) in
       ((told.0, (eqb-true (p / 2 ^ o.m) 1 eleven.0, sym (bit-first p) ∙ eqb-true (bit 0 p) 1 eleven.1)), told.1)
 
@@ -64,7 +64,7 @@ pub to_make : (plan : Plan) (plain undetected work : List ℕ) → Sound (call_i
 unfolding questions row_order with_length
 to_make plan plain undetected work s none =
     let c : Call = call_in plan in
-    let parts = none_in_parts _ _ (numbered-order c.takes (order_of_row c)) none in
+    let parts = none_in_parts _ _ (numbered_order c.takes (order_of_row c)) none in
     let row : AcceptedAs c.takes (order_of_row c) = accepted_as c.takes s.known_versions s.at_most_longest (order_of_row c) parts.0 in
     let shape = order_shaped c.takes (order_of_row c) parts.0 in
     let lengths = s.no_longer (le_trans shape.some_memory shape.long_enough) shape.at_most in

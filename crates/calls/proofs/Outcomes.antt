@@ -9,12 +9,12 @@ use lib.ListN.{length}
 use Rattle.lists.proofs.Tests.{lt_or_ge}
 use Rattle.order.specs.Order.{Order}
 use Rattle.order.specs.Answer.{Answer, refused, unless_refused}
-use Rattle.order.proofs.FirstNo.{leaves-refused, leaves-answered}
+use Rattle.order.proofs.FirstNo.{leaves_refused, leaves_answered}
 use Rattle.events.specs.Events.{events}
 use Rattle.row.specs.declared.Row.{Row}
 use Rattle.lengths.specs.Model.Noted.{AllFit}
 use Rattle.jobs.specs.Jobs.{SearchTables, cleared_search, unless_too_many}
-use Rattle.jobs.proofs.Fits.{fit-or-not, too-many-events, too-many-paths, all_fit}
+use Rattle.jobs.proofs.Fits.{fit_or_not, too_many_events, too_many_paths, all_fit}
 
 abbrev pub Outcome : Type 0
 Outcome = Answer Row × SearchTables
@@ -31,30 +31,30 @@ module _ (why : ℕ) (longer : Order) (rows : List Order) (t : SearchTables) (x 
   abbrev whole : Outcome
   whole = unless_refused why t fitting
 
-  pub whole-accepts : NoRefusal why longer rows t → whole ≡ x
-  whole-accepts n =
-      sym (leaves-answered t fitting why (sym n.questions))
+  pub whole_accepts : NoRefusal why longer rows t → whole ≡ x
+  whole_accepts n =
+      sym (leaves_answered t fitting why (sym n.questions))
       ∙ sym (all_fit longer rows (length t.events) (length t.paths) (cleared_search t) x n.events_fit n.paths_fit)
 
   -- some question says no
   abbrev Refuses : Type 0
   Refuses = (r : ℕ) × (whole.0 ≡ refused r)
 
-  refuses-late : why ≡ 0 → (r : ℕ) → ◌≡◌ {A = Outcome} (refused r, cleared_search t) fitting → Refuses
-  refuses-late e r h = (r, ap (λ (y : Outcome). y.0) (sym (leaves-answered t fitting why (sym e)) ∙ sym h))
+  refuses_late : why ≡ 0 → (r : ℕ) → ◌≡◌ {A = Outcome} (refused r, cleared_search t) fitting → Refuses
+  refuses_late e r h = (r, ap (λ (y : Outcome). y.0) (sym (leaves_answered t fitting why (sym e)) ∙ sym h))
 
-  pub whole-either : NoRefusal why longer rows t ⊎ Refuses
-  whole-either = by why refl
+  pub whole_either : NoRefusal why longer rows t ⊎ Refuses
+  whole_either = by why refl
     where
-      then-fits : why ≡ 0 → NoRefusal why longer rows t ⊎ Refuses
-      then-fits e = elim (lt_or_ge (length t.events) (length (events longer))) [
-        | inl more ↦ inr (refuses-late e 13 (too-many-events longer rows (length t.events) (length t.paths) (cleared_search t) x more))
+      then_fits : why ≡ 0 → NoRefusal why longer rows t ⊎ Refuses
+      then_fits e = elim (lt_or_ge (length t.events) (length (events longer))) [
+        | inl more ↦ inr (refuses_late e 13 (too_many_events longer rows (length t.events) (length t.paths) (cleared_search t) x more))
         | inr fits ↦ ⊎_elim
             (λ room. inl (record { questions = e; events_fit = fits; paths_fit = room }))
-            (λ more. inr (refuses-late e 14 (too-many-paths longer rows (length t.events) (length t.paths) (cleared_search t) x fits more)))
-            (fit-or-not (length t.paths) rows)
+            (λ more. inr (refuses_late e 14 (too_many_paths longer rows (length t.events) (length t.paths) (cleared_search t) x fits more)))
+            (fit_or_not (length t.paths) rows)
       ]
 
       by : (k : ℕ) → why ≡ k → NoRefusal why longer rows t ⊎ Refuses
-      by zero e = then-fits e
-      by (suc k) e = inr (why, ap (λ (y : Outcome). y.0) (sym (leaves-refused t fitting why why refl (λ z. absurd (omega (arith, e, z))))))
+      by zero e = then_fits e
+      by (suc k) e = inr (why, ap (λ (y : Outcome). y.0) (sym (leaves_refused t fitting why why refl (λ z. absurd (omega (arith, e, z))))))

@@ -1,6 +1,6 @@
--- What the chaining finds by one event more: nothing where the event is passed over (`found_none`), the rotations where it ends a chain (`found-last`),
--- or else what the chain begun with it finds (`found_more`). All it finds is what its events find, one after another (`found-is-rest`), and events
--- that are not worth joining may be skipped (`rest-skips`).
+-- What the chaining finds by one event more: nothing where the event is passed over (`found_none`), the rotations where it ends a chain (`found_last`),
+-- or else what the chain begun with it finds (`found_more`). All it finds is what its events find, one after another (`found_is_rest`), and events
+-- that are not worth joining may be skipped (`rest_skips`).
 -- Assumes nothing.
 use Prim.Native.Nat.{ℕ, zero, suc, ◌+◌, ◌-◌, ◌*◌, ◌^◌, ◌≤◌, ◌<◌}
 use native.Mathlib.Nat.{add-zero}
@@ -19,18 +19,18 @@ use Rattle.lists.proofs.Member.{up_from_bounds}
 use Rattle.lists.proofs.Sorted.{Within}
 use Rattle.paths.specs.Chains.{steps, cost}
 use Rattle.lists.proofs.Tests.{T_and, passes_or_fails}
-use Rattle.lists.proofs.Blocks.{flatMap-cong-on, flatMap-map}
-use Rattle.lists.proofs.Choices.{cond-true, cond-false, eqb_differs}
+use Rattle.lists.proofs.Blocks.{flat_map_cong_on, flat_map_map}
+use Rattle.lists.proofs.Choices.{cond_true, cond_false, eqb_differs}
 use Rattle.events.specs.declared.Event.{Event}
 use Rattle.events.specs.Events.{ErrorEvent, no_event}
 use Rattle.paths.specs.Model.Joining.{turns, first_or, fits_in, joining, joined}
-use Rattle.paths.proofs.Joined.{first_or_again, joining-more}
-use Rattle.paths.proofs.Pruned.{joined-drops, fill-le-cost}
-use Rattle.paths.proofs.UsedUp.{Calm, used-up, too-light}
+use Rattle.paths.proofs.Joined.{first_or_again, joining_more}
+use Rattle.paths.proofs.Pruned.{joined_drops, fill_le_cost}
+use Rattle.paths.proofs.UsedUp.{Calm, used_up, too_light}
 use Rattle.bounds.specs.declared.Chain.{Chain}
 use Rattle.bounds.specs.Model.Tables.{start_at, end_at, bits_at, least_at, fill_at, light_at, skipped, complete, decided}
-use Rattle.bounds.proofs.ZeroLoops.{zero-loop}
-use Rattle.bounds.proofs.Decided.{fits, whole, spare, ending, spent, ending-parts, not-whole, fit_parts, decided-skipped, decided-complete, decided-continued}
+use Rattle.bounds.proofs.ZeroLoops.{zero_loop}
+use Rattle.bounds.proofs.Decided.{fits, whole, spare, ending, spent, ending_parts, not_whole, fit_parts, decided-skipped, decided-complete, decided-continued}
 use Rattle.bounds.proofs.Looked.{Useless}
 use Rattle.chains.specs.Model.Chaining.{inputs_of, word_of, error_event, at_hand, extended, found, found_by, Joinable, Joins, Unfinished}
 
@@ -53,9 +53,9 @@ module _ {table : List Event} {work : List ℕ} (joins : Joins table work) where
   to = end_at work
 
   -- an event at hand stands at a place of the table
-  at-hand : (e : ErrorEvent) → Memᴰ e es → (k : ℕ) × ((from ≤ k) × ((k < to) × (error_event (get_or table k no_event) ≡ e)))
+  at_hand_lem : (e : ErrorEvent) → Memᴰ e es → (k : ℕ) × ((from ≤ k) × ((k < to) × (error_event (get_or table k no_event) ≡ e)))
   unfolding at_hand
-  at-hand e m =
+  at_hand_lem e m =
       let h = Memᴰ.of_map (λ k. error_event (get_or table k no_event)) (up_from from (to - from)) m in
       let b = up_from_bounds from (to - from) h.1 in
       (h.0, (b.0, (omega arith, h.2)))
@@ -63,34 +63,34 @@ module _ {table : List Event} {work : List ℕ} (joins : Joins table work) where
   pub some_step : (e : ErrorEvent) → Memᴰ e (at_hand table work) → 1 ≤ e.length
   unfolding error_event
   some_step e m =
-      let h = at-hand e m in
+      let h = at_hand_lem e m in
       subst (λ (x : ErrorEvent). 1 ≤ x.length) h.1.1.1 (joins.joinable h.0 h.1.0 h.1.1.0).some_step
 
   least_weighs : (e : ErrorEvent) → Memᴰ e es → least_at work e.length ≤ e.weight
   unfolding error_event
   least_weighs e m =
-      let h = at-hand e m in
+      let h = at_hand_lem e m in
       subst (λ (x : ErrorEvent). least_at work x.length ≤ x.weight) h.1.1.1
       (joins.ready.least_weighs h.0 h.1.0 h.1.1.0)
 
   -- steps that cannot be filled find nothing
   drops : (fuel left acc first budget : ℕ) → left ≤ N → budget < fill_at work left → joined fuel es N left acc first budget ≡ []
   drops =
-      joined-drops N es some_step (least_at work) (fill_at work) joins.ready.fill_zero joins.ready.fill_step least_weighs
+      joined_drops N es some_step (least_at work) (fill_at work) joins.ready.fill_zero joins.ready.fill_step least_weighs
 
   -- a chain weighs at least what the table says of its steps
-  pub least-whole : (c : List ErrorEvent) → Within c (at_hand table work) → steps c ≤ bits_at work → fill_at work (steps c) ≤ cost c
-  least-whole =
-      fill-le-cost N es some_step (least_at work) (fill_at work) joins.ready.fill_zero joins.ready.fill_step least_weighs
+  pub least_whole : (c : List ErrorEvent) → Within c (at_hand table work) → steps c ≤ bits_at work → fill_at work (steps c) ≤ cost c
+  least_whole =
+      fill_le_cost N es some_step (least_at work) (fill_at work) joins.ready.fill_zero joins.ready.fill_step least_weighs
 
   -- where the table tells something of it, the zero loop is the first event at hand, and the others weigh as much
   calm : 1 ≤ light_at work → Calm (light_at work) es
   unfolding at_hand error_event up_from
   calm h =
       let c = joins.calming h in
-      let loop = zero-loop (get_or table from no_event) c.loop in
-      let low = loop.no-low in
-      let high = loop.no-high in
+      let loop = zero_loop (get_or table from no_event) c.loop in
+      let low = loop.no_low in
+      let high = loop.no_high in
       let some = c.some in
       let more : to - from ≡ suc (to - from - 1) = omega arith in
       record {
@@ -120,30 +120,30 @@ module _ {table : List Event} {work : List ℕ} (joins : Joins table work) where
     abbrev last : List ℕ
     last = cond (eqb e.weight budget) (turns N first' c) []
 
-    joining-unfit : T (not (fits_in left budget e)) → joining N (joined fuel es N) left acc first budget e ≡ []
+    joining_unfit : T (not (fits_in left budget e)) → joining N (joined fuel es N) left acc first budget e ≡ []
     unfolding joining
-    joining-unfit t = cond-false (fits_in left budget e) (cond (eqb e.length left) last rest) [] t
+    joining_unfit t = cond_false (fits_in left budget e) (cond (eqb e.length left) last rest) [] t
 
-    joining-whole : T (fits_in left budget e) → T (eqb e.length left)
+    joining_whole : T (fits_in left budget e) → T (eqb e.length left)
         → joining N (joined fuel es N) left acc first budget e ≡ last
     unfolding joining
-    joining-whole t s =
-        cond-true (fits_in left budget e) (cond (eqb e.length left) last rest) [] t
-        ∙ cond-true (eqb e.length left) last rest s
+    joining_whole t s =
+        cond_true (fits_in left budget e) (cond (eqb e.length left) last rest) [] t
+        ∙ cond_true (eqb e.length left) last rest s
 
-    joining-part : T (fits_in left budget e) → T (not (eqb e.length left))
+    joining_part : T (fits_in left budget e) → T (not (eqb e.length left))
         → joining N (joined fuel es N) left acc first budget e ≡ rest
     unfolding joining
-    joining-part t s =
-        cond-true (fits_in left budget e) (cond (eqb e.length left) last rest) [] t
-        ∙ cond-false (eqb e.length left) last rest s
+    joining_part t s =
+        cond_true (fits_in left budget e) (cond (eqb e.length left) last rest) [] t
+        ∙ cond_false (eqb e.length left) last rest s
 
     -- an event that the least weight of the steps after it forbids
-    pub not-worth : budget < e.weight + fill_at work (left - e.length)
+    pub not_worth : budget < e.weight + fill_at work (left - e.length)
         → joining N (joined fuel es N) left acc first budget e ≡ []
     unfolding fits_in
-    not-worth heavy =
-        ⊎_elim (λ t. fitting t) joining-unfit (passes_or_fails (fits_in left budget e))
+    not_worth heavy =
+        ⊎_elim (λ t. fitting t) joining_unfit (passes_or_fails (fits_in left budget e))
       where
         none_left : e.length ≡ left → budget < e.weight
         none_left s =
@@ -157,7 +157,7 @@ module _ {table : List Event} {work : List ℕ} (joins : Joins table work) where
             let h = (T_and (leb e.length left) (leb e.weight budget)).0 t in
             let light = leb→le e.weight budget h.1 in
             ⊎_elim (λ s. absurd (let x = none_left (eqb→eq e.length left s) in omega arith))
-            (λ s. joining-part t s ∙ drops fuel (left - e.length) c first' (budget - e.weight) (omega arith) (omega arith))
+            (λ s. joining_part t s ∙ drops fuel (left - e.length) c first' (budget - e.weight) (omega arith) (omega arith))
             (passes_or_fails (eqb e.length left))
 
   -- ---- more fuel than steps left changes nothing
@@ -172,25 +172,25 @@ module _ {table : List Event} {work : List ℕ} (joins : Joins table work) where
       → joining N (joined fuel es N) left acc first budget e ≡ []
   unfolding fits_in
   no_step fuel left acc first budget e h some none =
-      joining-unfit fuel left acc first budget e h some
+      joining_unfit fuel left acc first budget e h some
       (not_T (fits_in left budget e) (λ t. let g = leb→le e.length left
       ((T_and (leb e.length left) (leb e.weight budget)).0 t).0 in omega arith))
 
-  joined-fuel : (fuel fuel' left acc first budget : ℕ) → left ≤ N → left ≤ fuel → left ≤ fuel'
+  joined_fuel : (fuel fuel' left acc first budget : ℕ) → left ≤ N → left ≤ fuel → left ≤ fuel'
       → joined fuel es N left acc first budget ≡ joined fuel' es N left acc first budget
   unfolding joined
-  joined-fuel zero zero left acc first budget h g g' = refl
-  joined-fuel zero (suc fuel') left acc first budget h g g' =
-      sym (flatMap-cong-on (joining N (joined fuel' es N) left acc first budget) (λ _. []) es
+  joined_fuel zero zero left acc first budget h g g' = refl
+  joined_fuel zero (suc fuel') left acc first budget h g g' =
+      sym (flat_map_cong_on (joining N (joined fuel' es N) left acc first budget) (λ _. []) es
       (λ e m. no_step fuel' left acc first budget e h (some_step e m) (omega arith)) ∙ nothing es)
-  joined-fuel (suc fuel) zero left acc first budget h g g' =
-      flatMap-cong-on (joining N (joined fuel es N) left acc first budget) (λ _. []) es
+  joined_fuel (suc fuel) zero left acc first budget h g g' =
+      flat_map_cong_on (joining N (joined fuel es N) left acc first budget) (λ _. []) es
       (λ e m. no_step fuel left acc first budget e h (some_step e m) (omega arith)) ∙ nothing es
-  joined-fuel (suc fuel) (suc fuel') left acc first budget h g g' =
-      flatMap-cong-on (joining N (joined fuel es N) left acc first budget)
+  joined_fuel (suc fuel) (suc fuel') left acc first budget h g g' =
+      flat_map_cong_on (joining N (joined fuel es N) left acc first budget)
       (joining N (joined fuel' es N) left acc first budget) es (λ e m.
       let some = some_step e m in
-      joining-more N (joined fuel es N) (joined fuel' es N) left acc first budget e (joined-fuel fuel fuel' (left - e.length) (acc + e.input * 2 ^ (N - left))
+      joining_more N (joined fuel es N) (joined fuel' es N) left acc first budget e (joined_fuel fuel fuel' (left - e.length) (acc + e.input * 2 ^ (N - left))
       (first_or first e.length) (budget - e.weight) (omega arith) (omega arith) (omega arith)))
 
   -- ---- what one event of the table finds, by the decision on it
@@ -205,84 +205,84 @@ module _ {table : List Event} {work : List ℕ} (joins : Joins table work) where
     abbrev first'' : ℕ
     first'' = first_or begun.first e.length
 
-    by-unfit : T (not (fits work begun e)) → found_by table work begun e ≡ []
+    by_unfit : T (not (fits work begun e)) → found_by table work begun e ≡ []
     unfolding found_by error_event fits_in
-    by-unfit =
-        joining-unfit fuel begun.steps (inputs_of begun) begun.first begun.budget
+    by_unfit =
+        joining_unfit fuel begun.steps (inputs_of begun) begun.first begun.budget
         (error_event e) is.within able.some_step
 
     by_whole : T (fits work begun e) → T (whole work begun e)
         → found_by table work begun e ≡ cond (spent work begun e) (turns N first'' longer) []
     unfolding found_by error_event fits_in
     by_whole =
-        joining-whole fuel begun.steps (inputs_of begun) begun.first begun.budget
+        joining_whole fuel begun.steps (inputs_of begun) begun.first begun.budget
         (error_event e) is.within able.some_step
 
     by_part : T (fits work begun e) → T (not (whole work begun e))
         → found_by table work begun e ≡ joined fuel es N (begun.steps - e.length) longer first'' (begun.budget - e.weight)
     unfolding found_by error_event fits_in
     by_part =
-        joining-part fuel begun.steps (inputs_of begun) begun.first begun.budget
+        joining_part fuel begun.steps (inputs_of begun) begun.first begun.budget
         (error_event e) is.within able.some_step
 
-    by-heavy : begun.budget < e.weight + fill_at work (begun.steps - e.length) → found_by table work begun e ≡ []
+    by_heavy : begun.budget < e.weight + fill_at work (begun.steps - e.length) → found_by table work begun e ≡ []
     unfolding found_by error_event
-    by-heavy =
-        not-worth fuel begun.steps (inputs_of begun) begun.first begun.budget
+    by_heavy =
+        not_worth fuel begun.steps (inputs_of begun) begun.first begun.budget
         (error_event e) is.within able.some_step
 
-    by-long : begun.steps < e.length → found_by table work begun e ≡ []
-    by-long long = by-unfit (not_T (fits work begun e) (λ t. let f = (fit_parts work begun e t).0 in omega arith))
+    by_long : begun.steps < e.length → found_by table work begun e ≡ []
+    by_long long = by_unfit (not_T (fits work begun e) (λ t. let f = (fit_parts work begun e t).0 in omega arith))
 
     -- some step is left
-    steps-left : T (fits work begun e) → T (not (whole work begun e)) → e.length < begun.steps
-    steps-left f n = lt_of_le-ne (fit_parts work begun e f).0 (eqb_differs e.length begun.steps n)
+    steps_left : T (fits work begun e) → T (not (whole work begun e)) → e.length < begun.steps
+    steps_left f n = lt_of_le-ne (fit_parts work begun e f).0 (eqb_differs e.length begun.steps n)
 
     -- the weight that is left is not used up by anything
-    by-light : T (fits work begun e) → T (not (whole work begun e)) → T (spare work begun e) → T (not (spent work begun e)) → found_by table work begun e ≡ []
-    by-light f n p s =
+    by_light : T (fits work begun e) → T (not (whole work begun e)) → T (spare work begun e) → T (not (spent work begun e)) → found_by table work begun e ≡ []
+    by_light f n p s =
         let l = ltb→lt (begun.budget - e.weight) (light_at work) p in
         let w = (fit_parts work begun e f).1 in
         let d : e.weight ≢ begun.budget = eqb_differs e.weight begun.budget s in
         let inside = is.within in
         by_part f n
-        ∙ too-light N es (light_at work) (omega arith) (calm (omega arith)) some_step fuel (begun.steps - e.length) longer first''
+        ∙ too_light N es (light_at work) (omega arith) (calm (omega arith)) some_step fuel (begun.steps - e.length) longer first''
         (begun.budget - e.weight) (omega arith) (left e.weight begun.budget w d) l
       where
         left : (x y : ℕ) → x ≤ y → x ≢ y → 1 ≤ y - x
         left x y g n = omega arith
 
     -- it is used up: zero loops follow
-    by-used : T (fits work begun e) → T (not (whole work begun e)) → T (spare work begun e) → T (spent work begun e)
+    by_used : T (fits work begun e) → T (not (whole work begun e)) → T (spare work begun e) → T (spent work begun e)
         → found_by table work begun e ≡ turns N first'' longer
-    by-used f n p s =
+    by_used f n p s =
         let l = ltb→lt (begun.budget - e.weight) (light_at work) p in
         let w = eqb→eq e.weight begun.budget s in
         let none : begun.budget - e.weight ≡ 0 = omega arith in
         let some = able.some_step in
-        let short = steps-left f n in
+        let short = steps_left f n in
         by_part f n
         ∙ ap (λ (x : ℕ). joined fuel es N (begun.steps - e.length) longer first'' x) none
-        ∙ used-up N es (light_at work) (omega arith) (calm (omega arith)) fuel (begun.steps - e.length) longer first'' (omega arith) (omega arith)
+        ∙ used_up N es (light_at work) (omega arith) (calm (omega arith)) fuel (begun.steps - e.length) longer first'' (omega arith) (omega arith)
         ∙ ap (λ (x : ℕ). turns N x longer) (first_or_again begun.first e.length 1 some)
 
     pub found_none : decided work begun e ≡ skipped → found_by table work begun e ≡ []
     found_none d =
-        ⊎_elim by-unfit (λ h. ⊎_elim (λ k. ended k.0 k.1) (λ k. by-heavy (nleb→lt _ _ k.1)) h)
+        ⊎_elim by_unfit (λ h. ⊎_elim (λ k. ended k.0 k.1) (λ k. by_heavy (nleb→lt _ _ k.1)) h)
         (decided-skipped work begun e d)
       where
         ended : T (ending work begun e) → T (not (spent work begun e)) → found_by table work begun e ≡ []
         ended t s =
-            ⊎_elim (λ f. ⊎_elim (λ w. by_whole f w ∙ cond-false (spent work begun e) (turns N first'' longer) [] s) (λ p. by-light f p.0 p.1 s)
-            (ending-parts work begun e t)) by-unfit (passes_or_fails (fits work begun e))
+            ⊎_elim (λ f. ⊎_elim (λ w. by_whole f w ∙ cond_false (spent work begun e) (turns N first'' longer) [] s) (λ p. by_light f p.0 p.1 s)
+            (ending_parts work begun e t)) by_unfit (passes_or_fails (fits work begun e))
 
-    pub found-last : decided work begun e ≡ complete
+    pub found_last : decided work begun e ≡ complete
         → found_by table work begun e ≡ turns N (extended N begun e).first (inputs_of (extended N begun e))
     unfolding extended
-    found-last d =
+    found_last d =
         let h = decided-complete work begun e d in
-        ⊎_elim (λ w. by_whole h.0 w ∙ cond-true (spent work begun e) (turns N first'' longer) [] h.1.1) (λ p. by-used h.0 p.0 p.1 h.1.1)
-        (ending-parts work begun e h.1.0)
+        ⊎_elim (λ w. by_whole h.0 w ∙ cond_true (spent work begun e) (turns N first'' longer) [] h.1.1) (λ p. by_used h.0 p.0 p.1 h.1.1)
+        (ending_parts work begun e h.1.0)
         ∙ ap (turns N first'') (sym (word-extended N begun e))
 
     pub found_more : decided work begun e ≢ skipped → decided work begun e ≢ complete
@@ -293,8 +293,8 @@ module _ {table : List Event} {work : List ℕ} (joins : Joins table work) where
         let some = able.some_step in
         let inside = is.within in
         let left = is.some_left in
-        by_part h.0 (not-whole work begun e h.1.0)
-        ∙ joined-fuel fuel (begun.steps - e.length) (begun.steps - e.length) longer first'' (begun.budget - e.weight)
+        by_part h.0 (not_whole work begun e h.1.0)
+        ∙ joined_fuel fuel (begun.steps - e.length) (begun.steps - e.length) longer first'' (begun.budget - e.weight)
         (omega arith) (omega arith) (omega arith)
         ∙ ap (λ (x : ℕ). joined (begun.steps - e.length) es N (begun.steps - e.length) x first'' (begun.budget - e.weight))
         (sym (word-extended N begun e))
@@ -309,25 +309,25 @@ module _ {table : List Event} {work : List ℕ} (joins : Joins table work) where
   unfoldable pub rest_from : Chain → ℕ → List ℕ
   rest_from begun k = flat_map (finds begun) (up_from k (to - k))
 
-  pub found-is-rest : (begun : Chain) → Unfinished N begun → found table work begun ≡ rest_from begun from
+  pub found_is_rest : (begun : Chain) → Unfinished N begun → found table work begun ≡ rest_from begun from
   unfolding found rest_from found_by at_hand joined
-  found-is-rest begun is =
+  found_is_rest begun is =
       ap (λ (x : ℕ). joined x es N begun.steps (inputs_of begun) begun.first begun.budget)
-      (suc-of begun.steps is.some_left) ∙ unrolled (begun.steps - 1)
+      (suc_of begun.steps is.some_left) ∙ unrolled (begun.steps - 1)
     where
-      suc-of : (n : ℕ) → 1 ≤ n → n ≡ suc (n - 1)
-      suc-of n h = omega arith
+      suc_of : (n : ℕ) → 1 ≤ n → n ≡ suc (n - 1)
+      suc_of n h = omega arith
 
       unrolled : (fuel : ℕ) → joined (suc fuel) es N begun.steps (inputs_of begun) begun.first begun.budget
           ≡ flat_map (λ k. joining N (joined fuel es N) begun.steps (inputs_of begun) begun.first begun.budget
           (error_event (get_or table k no_event))) (up_from from (to - from))
       unrolled fuel =
-          flatMap-map (joining N (joined fuel es N) begun.steps (inputs_of begun) begun.first begun.budget)
+          flat_map_map (joining N (joined fuel es N) begun.steps (inputs_of begun) begun.first begun.budget)
           (λ k. error_event (get_or table k no_event)) (up_from from (to - from))
 
-  pub rest-turn : (begun : Chain) (k : ℕ) → k < to → rest_from begun k ≡ finds begun k ++ rest_from begun (k + 1)
+  pub rest_turn : (begun : Chain) (k : ℕ) → k < to → rest_from begun k ≡ finds begun k ++ rest_from begun (k + 1)
   unfolding rest_from up_from flat_map
-  rest-turn begun k h =
+  rest_turn begun k h =
       let n : to - k ≡ suc (to - (k + 1)) = omega arith in
       let s : suc k ≡ k + 1 = omega arith in
       ap (λ (x : ℕ). flat_map (finds begun) (up_from k x)) n
@@ -341,21 +341,21 @@ module _ {table : List Event} {work : List ℕ} (joins : Joins table work) where
       none_of x y g = omega arith
 
   -- events that find nothing are skipped
-  pub rest-skips : (begun : Chain) (n k : ℕ) → k + n ≤ to → ((x : ℕ) → k ≤ x → x < k + n → finds begun x ≡ [])
+  pub rest_skips : (begun : Chain) (n k : ℕ) → k + n ≤ to → ((x : ℕ) → k ≤ x → x < k + n → finds begun x ≡ [])
       → rest_from begun k ≡ rest_from begun (k + n)
-  rest-skips begun zero k h none = ap (rest_from begun) (sym (add-zero k))
-  rest-skips begun (suc n) k h none =
-      rest-turn begun k (omega arith) ∙ ap (λ (l : List ℕ). l ++ rest_from begun (k + 1)) (none k (omega arith) (omega arith))
-      ∙ rest-skips begun n (k + 1) (omega arith) (λ x g g'. none x (omega arith) (omega arith)) ∙ ap (rest_from begun) (shift k n)
+  rest_skips begun zero k h none = ap (rest_from begun) (sym (add-zero k))
+  rest_skips begun (suc n) k h none =
+      rest_turn begun k (omega arith) ∙ ap (λ (l : List ℕ). l ++ rest_from begun (k + 1)) (none k (omega arith) (omega arith))
+      ∙ rest_skips begun n (k + 1) (omega arith) (λ x g g'. none x (omega arith) (omega arith)) ∙ ap (rest_from begun) (shift k n)
     where
       shift : (a b : ℕ) → a + 1 + b ≡ a + suc b
       shift a b = omega arith
 
   -- an event too long for the steps left, or too heavy for what the tables say of its length
-  pub finds-none : (begun : Chain) → Unfinished N begun → (k : ℕ) → from ≤ k → k < to
+  pub finds_none : (begun : Chain) → Unfinished N begun → (k : ℕ) → from ≤ k → k < to
       → Useless work begun.steps begun.budget (get_or table k no_event).length → finds begun k ≡ []
-  finds-none begun is k h g why =
+  finds_none begun is k h g why =
       let able = joins.joinable k h g in
       let lightest = joins.ready.least_weighs k h g in
-      ⊎_elim (by-long begun (get_or table k no_event) is able)
-      (λ heavy. by-heavy begun (get_or table k no_event) is able (omega arith)) why
+      ⊎_elim (by_long begun (get_or table k no_event) is able)
+      (λ heavy. by_heavy begun (get_or table k no_event) is able (omega arith)) why

@@ -1,5 +1,5 @@
 -- Once the table holds an order's events, or those of the same order for longer words, and all are noted, the work area tells where each state's begin
--- (`delimits-order`).
+-- (`delimits_order`).
 -- Assumes nothing.
 use Prim.Native.Nat.{ℕ, ◌+◌, ◌-◌, ◌*◌, ◌^◌, ◌≤◌, ◌<◌}
 use native.Mathlib.Nat.{le_trans, lt_of_lt_of_le, lt_of_le_of_lt, mul-le-mul_left}
@@ -9,21 +9,21 @@ use mathlib.Core.Logic.{inl, inr}
 use mathlib.Core.List.{List, map}
 use lib.ListN.{length, get_or, replicate, length-replicate, get_or-map, length-map}
 use lib.Pow.{pow_mono}
-use Rattle.lists.proofs.Lengths.{getD-padded-inside}
+use Rattle.lists.proofs.Lengths.{get_or-padded_inside}
 use Rattle.code.specs.Links.{steps_of, event_states}
-use Rattle.code.proofs.Links.{states-le, no-more-steps}
+use Rattle.code.proofs.Links.{states_le, no_more_steps}
 use Rattle.order.specs.Order.{Order}
 use Rattle.order.specs.Model.Lengths.{NoLonger}
 use Rattle.events.specs.declared.Event.{Event}
 use Rattle.events.specs.Events.{ErrorEvent, events, entry, no_event, event_table}
-use Rattle.events.proofs.Listed.{Listed, Before, of-events, events-sorted}
+use Rattle.events.proofs.Listed.{Listed, Before, of_events, events-sorted}
 use Rattle.code.specs.Model.Steps.{most_steps}
 use Rattle.bounds.specs.Model.Places.{state_count, area_size}
 use Rattle.bounds.specs.Model.Tables.{first_of, bits_at, surveyed, indexed, Segment}
 use Rattle.bounds.proofs.Kept.{Noteworthy, surveyed_keeps, indexed_keeps}
-use Rattle.bounds.proofs.States.{states-indexed, firstOf-rises, firstOf-last, states-between, states-bits, states-fill, states-whole}
+use Rattle.bounds.proofs.States.{states_indexed, first_of_rises, first_of_last, states_between, states_bits, states_fill, states_whole}
 use Rattle.chains.specs.Model.Chaining.{most_weight, word_of, Joinable, Indexed}
-use Rattle.chains.proofs.Slices.{getD-in, sorted-at}
+use Rattle.chains.proofs.Slices.{get_or_in, sorted_at}
 use Rattle.chains.proofs.Listed.{no_error_event, Delimits}
 
 -- where the event ends a word of T steps, its input stays below 2^128
@@ -82,25 +82,25 @@ module _ {o c : Order} (no_longer : NoLonger o c) (some_bits : 1 ≤ steps_of o)
   work = indexed (steps_of o) (surveyed table count 0 (replicate size 0))
 
   few_states : event_states c ≤ state_count
-  few_states = le_trans (states-le c) (pow_mono {i = c.v} {j = 8} memory)
+  few_states = le_trans (states_le c) (pow_mono {i = c.v} {j = 8} memory)
 
   known : (k : ℕ) → k < count → Listed c (event k)
-  known k h = of-events c (getD-in no_error_event (events c) k h)
+  known k h = of_events c (get_or_in no_error_event (events c) k h)
 
-  state-at : (k : ℕ) → k < count → (get_or table k no_event).state ≡ (event k).state
-  state-at k h = ap (λ (e : Event). e.state) (entries k h) ∙ entry_state (event k)
+  state_at_lem : (k : ℕ) → k < count → (get_or table k no_event).state ≡ (event k).state
+  state_at_lem k h = ap (λ (e : Event). e.state) (entries k h) ∙ entry_state (event k)
 
   length_at : (k : ℕ) → k < count → (get_or table k no_event).length ≡ (event k).length
   length_at k h = ap (λ (e : Event). e.length) (entries k h) ∙ entry_length (event k)
 
   before_at : (k l : ℕ) → k < l → l < count → Before (event k) (event l)
-  before_at k l h g = sorted-at no_error_event Before (events c) (events-sorted c) k l h g
+  before_at k l h g = sorted_at no_error_event Before (events c) (events-sorted c) k l h g
 
   state_small : (k : ℕ) → k < count → (get_or table k no_event).state < state_count
-  state_small k h = subst (λ (x : ℕ). x < state_count) (sym (state-at k h)) (lt_of_lt_of_le (known k h).state_fits few_states)
+  state_small k h = subst (λ (x : ℕ). x < state_count) (sym (state_at_lem k h)) (lt_of_lt_of_le (known k h).state_fits few_states)
 
-  length-few : (k : ℕ) → k < count → (event k).length ≤ most_steps
-  length-few k h = le_trans (known k h).at_most_steps few_bits
+  length_few : (k : ℕ) → k < count → (event k).length ≤ most_steps
+  length_few k h = le_trans (known k h).at_most_steps few_bits
 
   pub noteworthy : Noteworthy table count 0
   noteworthy k h g =
@@ -108,24 +108,24 @@ module _ {o c : Order} (no_longer : NoLonger o c) (some_bits : 1 ≤ steps_of o)
       record {
         state_small = state_small k in_table;
         length_small = subst (λ (x : ℕ). x ≤ most_steps) (sym (length_at k in_table))
-            (length-few k in_table);
+            (length_few k in_table);
       }
 
   ordered : (k l : ℕ) → k < l → l < count → (get_or table k no_event).state ≤ (get_or table l no_event).state
   ordered k l h g =
-      let a = state-at k (omega arith) in
-      let b = state-at l g in
+      let a = state_at_lem k (omega arith) in
+      let b = state_at_lem l g in
       let c = before_states (event k) (event l) (before_at k l h g) in
       omega (arith, a, b, c)
 
   last : (i : ℕ) → i ≤ state_count → first_of work i ≤ count
-  last = firstOf-last table count (steps_of o) size room noteworthy ordered
+  last = first_of_last table count (steps_of o) size room noteworthy ordered
 
   between : (k s : ℕ) → s < state_count → first_of work s ≤ k → k < first_of work (s + 1) → (get_or table k no_event).state ≡ s
-  between = states-between table count (steps_of o) size room noteworthy ordered
+  between = states_between table count (steps_of o) size room noteworthy ordered
 
   bits_are : bits_at work ≡ steps_of o
-  bits_are = states-bits table count (steps_of o) size room noteworthy ordered
+  bits_are = states_bits table count (steps_of o) size room noteworthy ordered
 
   segment : (i : ℕ) → i < state_count → Segment table (first_of work i) (first_of work (i + 1))
   segment i h = record {
@@ -133,12 +133,12 @@ module _ {o c : Order} (no_longer : NoLonger o c) (some_bits : 1 ≤ steps_of o)
     lengths = λ k a b.
         let e = known k (in_table k b) in (
           subst (λ (x : ℕ). 1 ≤ x) (sym (length_at k (in_table k b))) e.some_step,
-          subst (λ (x : ℕ). x ≤ most_steps) (sym (length_at k (in_table k b))) (length-few k (in_table k b)),
+          subst (λ (x : ℕ). x ≤ most_steps) (sym (length_at k (in_table k b))) (length_few k (in_table k b)),
         );
     ordered = λ k l a c b.
         let k-in : k < count = in_table k (omega arith) in
-        let same : (event k).state ≡ (event l).state = sym (state-at k k-in) ∙ between k i h a (omega arith)
-        ∙ sym (between l i h (omega arith) b) ∙ state-at l (in_table l b) in
+        let same : (event k).state ≡ (event l).state = sym (state_at_lem k k-in) ∙ between k i h a (omega arith)
+        ∙ sym (between l i h (omega arith) b) ∙ state_at_lem l (in_table l b) in
         let p = length_at k k-in in
         let q = length_at l (in_table l b) in
         let r = before_lengths (event k) (event l) same (before_at k l c (in_table l b)) in
@@ -154,28 +154,28 @@ module _ {o c : Order} (no_longer : NoLonger o c) (some_bits : 1 ≤ steps_of o)
         let b = (surveyed_keeps table count 0 (replicate size 0) noteworthy).size in let c =
         length-replicate {A = ℕ} size 0 in omega (arith, a, b, c, room);
     some_bits = subst (λ (x : ℕ). 1 ≤ x) (sym bits_are) some_bits;
-    few_bits = subst (λ (x : ℕ). x ≤ most_steps) (sym bits_are) (le_trans (no-more-steps no_longer) few_bits);
-    fill_small = λ k h. let z = states-fill table count (steps_of o) size room noteworthy ordered k h in omega (arith, z);
-    rises = firstOf-rises table count (steps_of o) size room noteworthy ordered;
+    few_bits = subst (λ (x : ℕ). x ≤ most_steps) (sym bits_are) (le_trans (no_more_steps no_longer) few_bits);
+    fill_small = λ k h. let z = states_fill table count (steps_of o) size room noteworthy ordered k h in omega (arith, z);
+    rises = first_of_rises table count (steps_of o) size room noteworthy ordered;
     inside = le_trans (last state_count (omega arith)) fits;
     segment = segment;
     joinable = λ k h.
         let in_table : k < count = lt_of_lt_of_le h (last state_count (omega arith)) in
         subst (λ (x : ℕ). Joinable x (get_or table k no_event)) (sym bits_are) (subst (Joinable (steps_of o)) (sym (entries k in_table))
         (entry_joinable c (steps_of o) (event k) light
-        (whole_shorter (steps_of o) (steps_of c) (event k) (no-more-steps no_longer) (whole (event k) (known k in_table))) (known k in_table)));
-    wholes = λ i h k m s. let z = states-whole table count (steps_of o) size room noteworthy ordered i h in omega (arith, z);
+        (whole_shorter (steps_of o) (steps_of c) (event k) (no_more_steps no_longer) (whole (event k) (known k in_table))) (known k in_table)));
+    wholes = λ i h k m s. let z = states_whole table count (steps_of o) size room noteworthy ordered i h in omega (arith, z);
   }
 
-  pub delimits-order : Delimits o c table work
-  delimits-order = record {
+  pub delimits_order : Delimits o c table work
+  delimits_order = record {
     indexed = index;
     no_longer = no_longer;
     bits = bits_are;
     few_states = few_states;
     entries = entries;
     last = last;
-    placed = states-indexed table count (steps_of o) size room noteworthy ordered;
+    placed = states_indexed table count (steps_of o) size room noteworthy ordered;
     between = between;
   }
 
@@ -185,5 +185,5 @@ pub entries_listed : (o : Order) (size : ℕ) (k : ℕ) → k < length (events o
 unfolding event_table entry no_event
 entries_listed o size k h =
     let same : length (map entry (events o)) ≡ length (events o) = length-map (events o) entry in
-    getD-padded-inside size no_event (map entry (events o)) k no_event (omega (arith, same, h))
+    get_or-padded_inside size no_event (map entry (events o)) k no_event (omega (arith, same, h))
     ∙ get_or-map entry (events o) k no_error_event

@@ -12,10 +12,10 @@ use Rattle.lists.proofs.Member.{up_from_bounds}
 use Rattle.lists.proofs.Sorted.{Sorted}
 
 module _ {A : Type 0} (d : A) where
-  pub getD-in : (xs : List A) (k : ℕ) → k < length xs → Memᴰ (get_or xs k d) xs
-  getD-in [] k h = absurd (not-suc-le-zero h)
-  getD-in (x ∷ xs) zero h = mathlib.Core.List.Memᴰ.head refl
-  getD-in (x ∷ xs) (suc k) h = mathlib.Core.List.Memᴰ.tail (getD-in xs k (le_of_suc-le-suc h))
+  pub get_or_in : (xs : List A) (k : ℕ) → k < length xs → Memᴰ (get_or xs k d) xs
+  get_or_in [] k h = absurd (not-suc-le-zero h)
+  get_or_in (x ∷ xs) zero h = mathlib.Core.List.Memᴰ.head refl
+  get_or_in (x ∷ xs) (suc k) h = mathlib.Core.List.Memᴰ.tail (get_or_in xs k (le_of_suc-le-suc h))
 
   -- a place of a member
   pub record PlaceOf (xs : List A) (x : A) : Type 0 where
@@ -33,12 +33,12 @@ module _ {A : Type 0} (d : A) where
       first : (n : ℕ) → 0 < suc n
       first n = omega arith
 
-  pub sorted-at : (R : A → A → Type 0) (xs : List A) → Sorted R xs → (k l : ℕ) → k < l
+  pub sorted_at : (R : A → A → Type 0) (xs : List A) → Sorted R xs → (k l : ℕ) → k < l
       → l < length xs → R (get_or xs k d) (get_or xs l d)
-  sorted-at R [] s k l h g = absurd (not-suc-le-zero g)
-  sorted-at R (x ∷ xs) s k zero h g = absurd (not-suc-le-zero h)
-  sorted-at R (x ∷ xs) s zero (suc l) h g = s.0 (get_or xs l d) (getD-in xs l (le_of_suc-le-suc g))
-  sorted-at R (x ∷ xs) s (suc k) (suc l) h g = sorted-at R xs s.1 k l (le_of_suc-le-suc h) (le_of_suc-le-suc g)
+  sorted_at R [] s k l h g = absurd (not-suc-le-zero g)
+  sorted_at R (x ∷ xs) s k zero h g = absurd (not-suc-le-zero h)
+  sorted_at R (x ∷ xs) s zero (suc l) h g = s.0 (get_or xs l d) (get_or_in xs l (le_of_suc-le-suc g))
+  sorted_at R (x ∷ xs) s (suc k) (suc l) h g = sorted_at R xs s.1 k l (le_of_suc-le-suc h) (le_of_suc-le-suc g)
 
 -- what stands at the places of a range, one after another
 pub range_sorted : {A : Type 0} (R : A → A → Type 0) (f : ℕ → A) (from n : ℕ)

@@ -35,22 +35,22 @@ module _ (N : ℕ) (begun : Chain) (e : Event) (is : Unfinished N begun) (able :
       subst (λ (x : ℕ). x < 2 ^ (N - (begun.steps - e.length))) (sym (word-extended N begun e))
       (subst (λ (x : ℕ). inputs_of begun + word_of e * 2 ^ (N - begun.steps) < 2 ^ x) place small)
 
-  pub whole-word-lt : inputs_of (extended N begun e) < 2 ^ N
-  whole-word-lt = lt_of_lt_of_le word_lt (pow_mono {i = N - (begun.steps - e.length)} {j = N} (omega arith))
+  pub whole_word_lt : inputs_of (extended N begun e) < 2 ^ N
+  whole_word_lt = lt_of_lt_of_le word_lt (pow_mono {i = N - (begun.steps - e.length)} {j = N} (omega arith))
 
-  pub extended-short : ShortToTurn (extended N begun e).first N
+  pub extended_short : ShortToTurn (extended N begun e).first N
   unfolding extended
-  extended-short turned = is.short_to_turn (λ once. turned (first_or_one begun.first e.length once))
+  extended_short turned = is.short_to_turn (λ once. turned (first_or_one begun.first e.length once))
 
-  pub extended-unfinished : e.length < begun.steps → Unfinished N (extended N begun e)
+  pub extended_unfinished : e.length < begun.steps → Unfinished N (extended N begun e)
   unfolding extended
-  extended-unfinished shorter =
+  extended_unfinished shorter =
       let inside = is.within in
       let light = is.light in
       record {
         some_left = omega arith;
         within = omega arith;
-        short_to_turn = extended-short;
+        short_to_turn = extended_short;
         light = omega arith;
         word_small = word_lt;
       }

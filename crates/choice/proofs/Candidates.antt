@@ -69,14 +69,14 @@ module _ (m : ℕ) (positive : 1 ≤ m) where
       let rest : p % 2 ^ m < 2 ^ m = mod-lt p (one-le-pow m 2 (omega arith)) in
       (omega arith, omega arith)
 
-  pub of-candidates : (p : ℕ) → Memᴰ p (candidates m) → IsCandidate m p
-  of-candidates p member = let h = candidate_number m p member in subst (IsCandidate m) h.named (numbered h.k h.below)
+  pub of_candidates : (p : ℕ) → Memᴰ p (candidates m) → IsCandidate m p
+  of_candidates p member = let h = candidate_number m p member in subst (IsCandidate m) h.named (numbered h.k h.below)
 
-  pub in-candidates : (p : ℕ) → IsCandidate m p → Memᴰ p (candidates m)
-  in-candidates p c = let h = number_is p c in Memᴰ.cast (sym h.1) (candidate_member m ((p - 2 ^ m) / 2) h.0)
+  pub in_candidates : (p : ℕ) → IsCandidate m p → Memᴰ p (candidates m)
+  in_candidates p c = let h = number_is p c in Memᴰ.cast (sym h.1) (candidate_member m ((p - 2 ^ m) / 2) h.0)
 
-  pub mem-candidates : (p : ℕ) → Memᴰ p (candidates m) ↔ IsCandidate m p
-  mem-candidates p = (of-candidates p, in-candidates p)
+  pub mem_candidates : (p : ℕ) → Memᴰ p (candidates m) ↔ IsCandidate m p
+  mem_candidates p = (of_candidates p, in_candidates p)
 
 -- what is asked of a polynomial holds of every candidate
 pub candidate_divisor : {m n k p : ℕ} → CheckDegree m → n ≡ 2 ^ (m - 1) → k < n → p ≡ 2 ^ m + 2 * k + 1 → Divisor m p

@@ -8,24 +8,24 @@ use mathlib.Core.List.{List}
 use lib.Dec.{T}
 use lib.ListN.{length, get_or, set}
 use Rattle.undetected.specs.Model.Steps.{divided_counts, counted_from}
-use Rattle.undetected.proofs.Counts.{length-dividedCounts}
+use Rattle.undetected.proofs.Counts.{length-divided_counts}
 use Rattle.choice.specs.Choice.{fewer, first_of}
 use Rattle.choice.specs.Model.Steps.{alive_below, laid, dropped, offered_by, left_over, LeftAlive, ToCompare}
-use Rattle.choice.proofs.Offered.{up, Up, first-is-up, none_before}
-use Rattle.choice.proofs.Leader.{leader, leader-first, leader-down, leader-worse, leader-better, leader-level, leader-length}
-use Rattle.choice.proofs.Leader.{Alive, alive-begin, alive-down, alive-worse, alive-better, alive-level}
-use Rattle.choice.proofs.Remaining.{countsOf, best-counts, alive-end}
-use Rattle.choice.proofs.Weighed.{Agree, agree_all, laid_itself, laid-at, length-laid, laid-recounted}
+use Rattle.choice.proofs.Offered.{up, Up, first_is_up, none_before}
+use Rattle.choice.proofs.Leader.{leader, leader_first, leader_down, leader_worse, leader_better, leader_level, leader_length}
+use Rattle.choice.proofs.Leader.{Alive, alive_begin, alive_down, alive_worse, alive_better, alive_level}
+use Rattle.choice.proofs.Remaining.{counts_of, best_counts, alive_end}
+use Rattle.choice.proofs.Weighed.{Agree, agree_all, laid_itself, laid_at, length-laid, laid_recounted}
 
 -- of those offered, the best counts of the first k candidates over a table
 abbrev pub best_of : ℕ → List Bool → ℕ → List ℕ → List ℕ → ℕ → ℕ → List ℕ
-best_of m offered first table plain entries k = leader (countsOf m (divided_counts m table plain entries)) (up offered) first k
+best_of m offered first table plain entries k = leader (counts_of m (divided_counts m table plain entries)) (up offered) first k
 
 -- the first k candidates have been compared: the best counts stand in the undetected list, and the flags tell who has them
 pub record Met (m entries n : ℕ) (offered : List Bool) (first : ℕ) (table plain before after : List ℕ) (alive : List Bool) (k : ℕ) : Type 0 where
   pub within : k ≤ n
   pub listed : after ≡ laid (best_of m offered first table plain entries k) before
-  pub flags : Alive (countsOf m (divided_counts m table plain entries)) (up offered) first k alive
+  pub flags : Alive (counts_of m (divided_counts m table plain entries)) (up offered) first k alive
 
 -- of values that are the same
 pub met_same : {m entries n : ℕ} {offered : List Bool} {first : ℕ} {table plain before after after' : List ℕ} {alive alive' : List Bool} {k k' : ℕ}
@@ -40,7 +40,7 @@ module _ {bits entries m n : ℕ} {offered : List Bool} {first : ℕ} {table pla
   counts p = divided_counts m table plain entries p
 
   abbrev mine : ℕ → List ℕ
-  mine k = countsOf m (divided_counts m table plain entries) k
+  mine k = counts_of m (divided_counts m table plain entries) k
 
   abbrev best : ℕ → List ℕ
   best k = best_of m offered first table plain entries k
@@ -48,55 +48,55 @@ module _ {bits entries m n : ℕ} {offered : List Bool} {first : ℕ} {table pla
   abbrev room : entries ≤ length before
   room = asked.choose.counts
 
-  counts-length : (p : ℕ) → length (counts p) ≡ entries
-  counts-length p = length-dividedCounts m p table plain entries
+  counts_length : (p : ℕ) → length (counts p) ≡ entries
+  counts_length p = length-divided_counts m p table plain entries
 
   sized : (k : ℕ) → length (mine k) ≡ entries
-  sized k = counts-length (2 ^ m + 2 * k + 1)
+  sized k = counts_length (2 ^ m + 2 * k + 1)
 
   pub best-length : (k : ℕ) → length (best k) ≡ entries
-  best-length k = leader-length mine (up offered) first entries sized k
+  best-length k = leader_length mine (up offered) first entries sized k
 
   -- what holds after the first k
   abbrev After : List ℕ → List Bool → ℕ → Type 0
   After after alive k = Met m entries n offered first table plain before after alive k
 
   -- the best counts are read from the undetected list
-  pub met-limit : {k : ℕ} {after : List ℕ} {alive : List Bool} → After after alive k → (j : ℕ) → j < entries → get_or after j 0 ≡ get_or (best k) j 0
-  met-limit {k} met j h = ap (λ (l : List ℕ). get_or l j 0) met.listed ∙ laid-at entries (best k) before (best-length k) room j h
+  pub met_limit : {k : ℕ} {after : List ℕ} {alive : List Bool} → After after alive k → (j : ℕ) → j < entries → get_or after j 0 ≡ get_or (best k) j 0
+  met_limit {k} met j h = ap (λ (l : List ℕ). get_or l j 0) met.listed ∙ laid_at entries (best k) before (best-length k) room j h
 
-  pub met-length : {k : ℕ} {after : List ℕ} {alive : List Bool} → After after alive k → length after ≡ length before
-  met-length {k} met = ap length met.listed ∙ length-laid entries (best k) before (best-length k) room
+  pub met_length : {k : ℕ} {after : List ℕ} {alive : List Bool} → After after alive k → length after ≡ length before
+  met_length {k} met = ap length met.listed ∙ length-laid entries (best k) before (best-length k) room
 
-  first-among : first ≡ first_of (alive_below offered (2 ^ (m - 1)))
-  first-among = asked.first_up ∙ ap (λ (i : ℕ). first_of (alive_below offered i)) asked.all
+  first_among : first ≡ first_of (alive_below offered (2 ^ (m - 1)))
+  first_among = asked.first_up ∙ ap (λ (i : ℕ). first_of (alive_below offered i)) asked.all
 
-  pub first-offered : Up offered (2 ^ (m - 1)) first
-  first-offered = first-is-up offered (2 ^ (m - 1)) (asked.choose.some_offered.1, asked.choose.some_offered.2) first-among
+  pub first_offered : Up offered (2 ^ (m - 1)) first
+  first_offered = first_is_up offered (2 ^ (m - 1)) (asked.choose.some_offered.1, asked.choose.some_offered.2) first_among
 
-  none-earlier : (j : ℕ) → j < first → up offered j ≡ false
-  none-earlier = none_before offered (2 ^ (m - 1)) (asked.choose.some_offered.1, asked.choose.some_offered.2) first-among
+  none_earlier : (j : ℕ) → j < first → up offered j ≡ false
+  none_earlier = none_before offered (2 ^ (m - 1)) (asked.choose.some_offered.1, asked.choose.some_offered.2) first_among
 
-  pub met-begin : After before offered (first + 1)
-  met-begin =
-      let begun : mine first ≡ best first = sym (leader-first mine (up offered) first first none-earlier) in
+  pub met_begin : After before offered (first + 1)
+  met_begin =
+      let begun : mine first ≡ best first = sym (leader_first mine (up offered) first first none_earlier) in
       record {
-        within = omega (arith, asked.all, first-offered.0);
+        within = omega (arith, asked.all, first_offered.0);
         listed =
             laid_itself entries (best (first + 1)) before (best-length (first + 1))
-            (asked.first_counted ∙ begun ∙ sym (leader-level mine (up offered) first first begun));
+            (asked.first_counted ∙ begun ∙ sym (leader_level mine (up offered) first first begun));
         flags =
-            alive-level mine (up offered) first entries sized first offered (alive-begin mine (up offered) first first offered none-earlier (λ j. refl)) begun;
+            alive_level mine (up offered) first entries sized first offered (alive_begin mine (up offered) first first offered none_earlier (λ j. refl)) begun;
       }
 
   -- candidate k is not offered
-  pub met-down : {k : ℕ} {after : List ℕ} {alive : List Bool} → k < n → After after alive k → get_or alive k false ≡ false → After after alive (k + 1)
-  met-down {k} {after} {alive} more met e =
+  pub met_down : {k : ℕ} {after : List ℕ} {alive : List Bool} → k < n → After after alive k → get_or alive k false ≡ false → After after alive (k + 1)
+  met_down {k} {after} {alive} more met e =
       let d : up offered k ≡ false = sym (met.flags.after k (omega arith)) ∙ e in
       record {
         within = omega arith;
-        listed = met.listed ∙ ap (λ (a : List ℕ). laid a before) (sym (leader-down mine (up offered) first k d));
-        flags = alive-down mine (up offered) first entries sized k alive met.flags d;
+        listed = met.listed ∙ ap (λ (a : List ℕ). laid a before) (sym (leader_down mine (up offered) first k d));
+        flags = alive_down mine (up offered) first entries sized k alive met.flags d;
       }
 
   -- candidate k is met
@@ -104,47 +104,47 @@ module _ {bits entries m n : ℕ} {offered : List Bool} {first : ℕ} {table pla
     same : counts p ≡ mine k
     same = ap counts named
 
-    pub met-worse : T (fewer (best k) (counts p)) → After after (set alive k false) (k + 1)
-    met-worse t =
+    pub met_worse : T (fewer (best k) (counts p)) → After after (set alive k false) (k + 1)
+    met_worse t =
         let u = subst (λ (a : List ℕ). T (fewer (best k) a)) same t in
         record {
           within = omega arith;
-          listed = met.listed ∙ ap (λ (a : List ℕ). laid a before) (sym (leader-worse mine (up offered) first k u));
-          flags = alive-worse mine (up offered) first entries sized k alive met.flags u;
+          listed = met.listed ∙ ap (λ (a : List ℕ). laid a before) (sym (leader_worse mine (up offered) first k u));
+          flags = alive_worse mine (up offered) first entries sized k alive met.flags u;
         }
 
-    pub met-better : get_or alive k false ≡ true → T (fewer (counts p) (best k)) → (j : ℕ) → j ≤ entries → Agree j (counts p) (best k)
+    pub met_better : get_or alive k false ≡ true → T (fewer (counts p) (best k)) → (j : ℕ) → j ≤ entries → Agree j (counts p) (best k)
         → {alive' : List Bool} → alive' ≡ dropped k alive → {after' : List ℕ} → after' ≡ counted_from m p table plain j entries after
         → After after' alive' (k + 1)
-    met-better offer t j h agree ea el =
+    met_better offer t j h agree ea el =
         let is_up : up offered k ≡ true = sym (met.flags.after k (omega arith)) ∙ offer in
         let u = subst (λ (a : List ℕ). T (fewer a (best k))) same t in
         record {
           within = omega arith;
           listed =
               el ∙ ap (counted_from m p table plain j entries) met.listed
-              ∙ laid-recounted entries (best k) before (best-length k) room m p table plain j h agree
-              ∙ ap (λ (a : List ℕ). laid a before) (same ∙ sym (leader-better mine (up offered) first k is_up u));
-          flags = subst (Alive mine (up offered) first (k + 1)) (sym ea) (alive-better mine (up offered) first entries sized k alive met.flags is_up u);
+              ∙ laid_recounted entries (best k) before (best-length k) room m p table plain j h agree
+              ∙ ap (λ (a : List ℕ). laid a before) (same ∙ sym (leader_better mine (up offered) first k is_up u));
+          flags = subst (Alive mine (up offered) first (k + 1)) (sym ea) (alive_better mine (up offered) first entries sized k alive met.flags is_up u);
         }
 
-    pub met-level : Agree entries (counts p) (best k) → After after alive (k + 1)
-    met-level agree =
-        let e : mine k ≡ best k = sym same ∙ agree_all entries (counts p) (best k) (counts-length p) (best-length k) agree in
+    pub met_level : Agree entries (counts p) (best k) → After after alive (k + 1)
+    met_level agree =
+        let e : mine k ≡ best k = sym same ∙ agree_all entries (counts p) (best k) (counts_length p) (best-length k) agree in
         record {
           within = omega arith;
-          listed = met.listed ∙ ap (λ (a : List ℕ). laid a before) (sym (leader-level mine (up offered) first k e));
-          flags = alive-level mine (up offered) first entries sized k alive met.flags e;
+          listed = met.listed ∙ ap (λ (a : List ℕ). laid a before) (sym (leader_level mine (up offered) first k e));
+          flags = alive_level mine (up offered) first entries sized k alive met.flags e;
         }
 
-  pub met-end : {k : ℕ} {after : List ℕ} {alive : List Bool} → n ≤ k → After after alive k
+  pub met_end : {k : ℕ} {after : List ℕ} {alive : List Bool} → n ≤ k → After after alive k
       → LeftAlive m entries (offered_by m offered) table plain before after alive
   unfolding left_over
-  met-end {k} {after} {alive} h met =
+  met_end {k} {after} {alive} h met =
       let e : k ≡ 2 ^ (m - 1) = omega (arith, asked.all, met.within) in (
-        alive-end m counts offered entries counts-length first first-offered alive
+        alive_end m counts offered entries counts_length first first_offered alive
             (subst (λ (i : ℕ). Alive mine (up offered) first i alive) e met.flags),
         met.listed
             ∙ ap (λ (a : List ℕ). laid a before)
-            (ap (leader mine (up offered) first) e ∙ sym (best-counts m counts offered entries counts-length first first-offered)),
+            (ap (leader mine (up offered) first) e ∙ sym (best_counts m counts offered entries counts_length first first_offered)),
       )

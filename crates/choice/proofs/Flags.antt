@@ -9,8 +9,8 @@ use mathlib.Core.Bool.{Bool, true, false, cond}
 use mathlib.Core.List.{List, [], ◌∷◌, ◌++◌, append-nil}
 use lib.ListN.{length, get_or, set, length-append}
 use Rattle.lists.specs.Lists.{up_from, filter}
-use Rattle.lists.proofs.Lengths.{length-up_from, length-filter-le, up_from_last, up_from-append}
-use Rattle.lists.proofs.Filters.{filter-append, filter-one}
+use Rattle.lists.proofs.Lengths.{length-up_from, length-filter_le, up_from_last, up_from-append}
+use Rattle.lists.proofs.Filters.{filter-append, filter_one}
 use Rattle.choice.specs.Choice.{first_of}
 use Rattle.choice.specs.Model.Steps.{dropped, alive_below}
 
@@ -65,25 +65,25 @@ module _ (alive : List Bool) (k : ℕ) where
       let up : ℕ → Bool = λ (i : ℕ). get_or alive i false in
       ap (λ (i : ℕ). filter up (up_from 0 i)) (add-one k) ∙ ap (filter up) (up_from_last 0 k) ∙ filter-append up (up_from 0 k) ((0 + k) ∷ [])
       ∙ ap (λ (i : ℕ). filter up (up_from 0 k) ++ filter up (i ∷ [])) (zero-add k)
-      ∙ ap (λ (l : List ℕ). filter up (up_from 0 k) ++ l) (filter-one up k b e)
+      ∙ ap (λ (l : List ℕ). filter up (up_from 0 k) ++ l) (filter_one up k b e)
 
   pub below_up : get_or alive k false ≡ true → alive_below alive (k + 1) ≡ alive_below alive k ++ (k ∷ [])
   below_up e = below_more true e
 
-  below-down : get_or alive k false ≡ false → alive_below alive (k + 1) ≡ alive_below alive k
-  below-down e = below_more false e ∙ append-nil (alive_below alive k)
+  below_down : get_or alive k false ≡ false → alive_below alive (k + 1) ≡ alive_below alive k
+  below_down e = below_more false e ∙ append-nil (alive_below alive k)
 
   -- ---- counted
 
-  pub counted-up : (left : ℕ) → left ≡ length (alive_below alive k) → get_or alive k false ≡ true → left + 1 ≡ length (alive_below alive (k + 1))
-  counted-up left h e = sym (ap length (below_up e) ∙ length-append (alive_below alive k) (k ∷ []) ∙ ap (λ (n : ℕ). n + 1) (sym h))
+  pub counted_up : (left : ℕ) → left ≡ length (alive_below alive k) → get_or alive k false ≡ true → left + 1 ≡ length (alive_below alive (k + 1))
+  counted_up left h e = sym (ap length (below_up e) ∙ length-append (alive_below alive k) (k ∷ []) ∙ ap (λ (n : ℕ). n + 1) (sym h))
 
-  pub counted-down : (left : ℕ) → left ≡ length (alive_below alive k) → get_or alive k false ≡ false → left ≡ length (alive_below alive (k + 1))
-  counted-down left h e = h ∙ sym (ap length (below-down e))
+  pub counted_down : (left : ℕ) → left ≡ length (alive_below alive k) → get_or alive k false ≡ false → left ≡ length (alive_below alive (k + 1))
+  counted_down left h e = h ∙ sym (ap length (below_down e))
 
-  pub counted-few : length (alive_below alive k) ≤ k
+  pub counted_few : length (alive_below alive k) ≤ k
   unfolding alive_below
-  counted-few = omega (arith, length-filter-le (λ (i : ℕ). get_or alive i false) (up_from 0 k), length-up_from 0 k)
+  counted_few = omega (arith, length-filter_le (λ (i : ℕ). get_or alive i false) (up_from 0 k), length-up_from 0 k)
 
   pub counted-all : (n left : ℕ) → k ≡ n → left ≡ length (alive_below alive k) → left ≡ length (alive_below alive n)
   counted-all n left h e = e ∙ ap (λ (i : ℕ). length (alive_below alive i)) h
@@ -91,17 +91,17 @@ module _ (alive : List Bool) (k : ℕ) where
   -- ---- the first
 
   pub none_more : alive_below alive k ≡ [] → get_or alive k false ≡ false → alive_below alive (k + 1) ≡ []
-  none_more none e = below-down e ∙ none
+  none_more none e = below_down e ∙ none
 
   pub first_none : (n : ℕ) → k ≡ n → alive_below alive k ≡ [] → 0 ≡ first_of (alive_below alive n)
   unfolding first_of
   first_none n h none = sym (ap first_of (ap (alive_below alive) (sym h) ∙ none))
 
   -- none below k, and k
-  first-so-far : alive_below alive k ≡ [] → get_or alive k false ≡ true
+  first_so_far : alive_below alive k ≡ [] → get_or alive k false ≡ true
       → (j : ℕ) → alive_below alive (k + 1 + j) ≡ k ∷ filter (λ (i : ℕ). get_or alive i false) (up_from (k + 1) j)
   unfolding alive_below
-  first-so-far none e j =
+  first_so_far none e j =
       let up : ℕ → Bool = λ (i : ℕ). get_or alive i false in
       ap (filter up) (up_from-append 0 (k + 1) j) ∙ filter-append up (up_from 0 (k + 1)) (up_from (0 + (k + 1)) j)
       ∙ ap₂ (λ (l : List ℕ) (i : ℕ). l ++ filter up (up_from i j)) (below_up e ∙ ap (λ (l : List ℕ). l ++ (k ∷ [])) none) (zero-add (k + 1))
@@ -110,7 +110,7 @@ module _ (alive : List Bool) (k : ℕ) where
   unfolding first_of
   first_up n h none e =
       let more : k + 1 + (n - (k + 1)) ≡ n = omega arith in
-      sym (ap (λ (i : ℕ). first_of (alive_below alive i)) (sym more) ∙ ap first_of (first-so-far none e (n - (k + 1))))
+      sym (ap (λ (i : ℕ). first_of (alive_below alive i)) (sym more) ∙ ap first_of (first_so_far none e (n - (k + 1))))
 
 pub counted_none : (alive : List Bool) → 0 ≡ length (alive_below alive 0)
 counted_none alive = sym (ap length (none_below alive))
@@ -122,5 +122,5 @@ pub none_between : (alive : List Bool) (k j : ℕ) → ((i : ℕ) → k ≤ i �
 none_between alive k zero none = let same : k + zero ≡ k = omega arith in ap (alive_below alive) same
 none_between alive k (suc j) none =
     let more : k + suc j ≡ k + j + 1 = omega arith in
-    ap (alive_below alive) more ∙ below-down alive (k + j) (none (k + j) (omega arith) (omega arith))
+    ap (alive_below alive) more ∙ below_down alive (k + j) (none (k + j) (omega arith) (omega arith))
     ∙ none_between alive k j (λ i a b. none i a (omega arith))

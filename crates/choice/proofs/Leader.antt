@@ -66,51 +66,51 @@ module _ (f : ℕ → List ℕ) (up : ℕ → Bool) (first : ℕ) where
 
   -- ---- one more is met
 
-  leader-by : (k : ℕ) (b : Bool) → (up k && fewer (f k) (lead k)) ≡ b → lead (k + 1) ≡ cond b (f k) (lead k)
+  leader_by : (k : ℕ) (b : Bool) → (up k && fewer (f k) (lead k)) ≡ b → lead (k + 1) ≡ cond b (f k) (lead k)
   unfolding leader
-  leader-by k b e = ap lead (add-one k) ∙ ap (λ (c : Bool). cond c (f k) (lead k)) e
+  leader_by k b e = ap lead (add-one k) ∙ ap (λ (c : Bool). cond c (f k) (lead k)) e
 
-  pub leader-down : (k : ℕ) → up k ≡ false → lead (k + 1) ≡ lead k
-  leader-down k e = leader-by k false (sym (and_no (up k) (fewer (f k) (lead k)) e))
+  pub leader_down : (k : ℕ) → up k ≡ false → lead (k + 1) ≡ lead k
+  leader_down k e = leader_by k false (sym (and_no (up k) (fewer (f k) (lead k)) e))
 
-  leader-kept : (k : ℕ) → T (not (fewer (f k) (lead k))) → lead (k + 1) ≡ lead k
-  leader-kept k h = leader-by k false (fails_down (up k) (fewer (f k) (lead k)) h)
+  leader_kept : (k : ℕ) → T (not (fewer (f k) (lead k))) → lead (k + 1) ≡ lead k
+  leader_kept k h = leader_by k false (fails_down (up k) (fewer (f k) (lead k)) h)
 
-  pub leader-worse : (k : ℕ) → T (fewer (lead k) (f k)) → lead (k + 1) ≡ lead k
-  leader-worse k t = leader-kept k (not_T (fewer (f k) (lead k)) (fewer_asymmetric (lead k) (f k) t))
+  pub leader_worse : (k : ℕ) → T (fewer (lead k) (f k)) → lead (k + 1) ≡ lead k
+  leader_worse k t = leader_kept k (not_T (fewer (f k) (lead k)) (fewer_asymmetric (lead k) (f k) t))
 
-  pub leader-better : (k : ℕ) → up k ≡ true → T (fewer (f k) (lead k)) → lead (k + 1) ≡ f k
-  leader-better k e t = leader-by k true (sym (and_yes (up k) (fewer (f k) (lead k)) e) ∙ true_of_T (fewer (f k) (lead k)) t)
+  pub leader_better : (k : ℕ) → up k ≡ true → T (fewer (f k) (lead k)) → lead (k + 1) ≡ f k
+  leader_better k e t = leader_by k true (sym (and_yes (up k) (fewer (f k) (lead k)) e) ∙ true_of_T (fewer (f k) (lead k)) t)
 
-  pub leader-level : (k : ℕ) → f k ≡ lead k → lead (k + 1) ≡ lead k
-  leader-level k e = leader-kept k (subst (λ (a : List ℕ). T (not (fewer (f k) a))) e (not_itself (f k)))
+  pub leader_level : (k : ℕ) → f k ≡ lead k → lead (k + 1) ≡ lead k
+  leader_level k e = leader_kept k (subst (λ (a : List ℕ). T (not (fewer (f k) a))) e (not_itself (f k)))
 
   -- while none is up
-  pub leader-first : (k : ℕ) → ((j : ℕ) → j < k → up j ≡ false) → lead k ≡ f first
+  pub leader_first : (k : ℕ) → ((j : ℕ) → j < k → up j ≡ false) → lead k ≡ f first
   unfolding leader
-  leader-first zero none = refl
-  leader-first (suc k) none =
-      ap lead (sym (add-one k)) ∙ leader-down k (none k (omega arith)) ∙ leader-first k (λ j h. none j (omega arith))
+  leader_first zero none = refl
+  leader_first (suc k) none =
+      ap lead (sym (add-one k)) ∙ leader_down k (none k (omega arith)) ∙ leader_first k (λ j h. none j (omega arith))
 
   -- how the best of the first k + 1 comes from that of the first k
-  leader-step : (P : List ℕ → Type 0) (k : ℕ) → (up k ≡ false → P (lead k)) → (T (not (fewer (f k) (lead k))) → P (lead k))
+  leader_step : (P : List ℕ → Type 0) (k : ℕ) → (up k ≡ false → P (lead k)) → (T (not (fewer (f k) (lead k))) → P (lead k))
       → (up k ≡ true → T (fewer (f k) (lead k)) → P (f k)) → P (lead (suc k))
-  leader-step P k down kept new =
+  leader_step P k down kept new =
       subst (λ (i : ℕ). P (lead i)) (add-one k)
       (⊎_elim
       (λ u.
-      ⊎_elim (λ t. subst P (sym (leader-better k u t)) (new u t)) (λ n. subst P (sym (leader-kept k n)) (kept n)) (passes_or_fails (fewer (f k) (lead k))))
-      (λ d. subst P (sym (leader-down k d)) (down d))
+      ⊎_elim (λ t. subst P (sym (leader_better k u t)) (new u t)) (λ n. subst P (sym (leader_kept k n)) (kept n)) (passes_or_fails (fewer (f k) (lead k))))
+      (λ d. subst P (sym (leader_down k d)) (down d))
       (up_or_down (up k)))
 
   -- ---- one of those that are up
 
-  pub leader-member : (n : ℕ) → first < n → up first ≡ true → (k : ℕ) → k ≤ n → Among f up n (lead k)
+  pub leader_member : (n : ℕ) → first < n → up first ≡ true → (k : ℕ) → k ≤ n → Among f up n (lead k)
   unfolding leader
-  leader-member n below is_up zero h = record { place = first; below = below; is_up = is_up; same = refl }
-  leader-member n below is_up (suc k) h =
-      let so_far = leader-member n below is_up k (omega arith) in
-      leader-step (Among f up n) k (λ d. so_far) (λ w. so_far) (λ u t. record { place = k; below = omega arith; is_up = u; same = refl })
+  leader_member n below is_up zero h = record { place = first; below = below; is_up = is_up; same = refl }
+  leader_member n below is_up (suc k) h =
+      let so_far = leader_member n below is_up k (omega arith) in
+      leader_step (Among f up n) k (λ d. so_far) (λ w. so_far) (λ u t. record { place = k; below = omega arith; is_up = u; same = refl })
 
   -- ---- no other has fewer
 
@@ -118,35 +118,35 @@ module _ (f : ℕ → List ℕ) (up : ℕ → Bool) (first : ℕ) where
   abbrev Least : ℕ → List ℕ → Type 0
   Least k a = (j : ℕ) → j < k → up j ≡ true → T (not (fewer (f j) a))
 
-  least-new : (k : ℕ) → Least k (lead k) → T (fewer (f k) (lead k)) → Least (suc k) (f k)
-  least-new k least t =
+  least_new : (k : ℕ) → Least k (lead k) → T (fewer (f k) (lead k)) → Least (suc k) (f k)
+  least_new k least t =
       below_suc (λ j. up j ≡ true → T (not (fewer (f j) (f k)))) k
       (λ j h u. not_T (fewer (f j) (f k)) (λ b. T_not (fewer (f j) (lead k)) (least j h u) (fewer_transitive (f j) (f k) (lead k) b t)))
       (λ u. not_itself (f k))
 
-  pub leader-least : (k : ℕ) → Least k (lead k)
-  leader-least zero = λ j h u. absurd (omega arith)
-  leader-least (suc k) =
-      let least : Least k (lead k) = leader-least k in
+  pub leader_least : (k : ℕ) → Least k (lead k)
+  leader_least zero = λ j h u. absurd (omega arith)
+  leader_least (suc k) =
+      let least : Least k (lead k) = leader_least k in
       let more = below_suc (λ j. up j ≡ true → T (not (fewer (f j) (lead k)))) k least in
-      leader-step (Least (suc k)) k (λ d. more (λ u. absurd (subst T (sym u ∙ d) tt))) (λ n. more (λ u. n)) (λ u t. least-new k least t)
+      leader_step (Least (suc k)) k (λ d. more (λ u. absurd (subst T (sym u ∙ d) tt))) (λ n. more (λ u. n)) (λ u t. least_new k least t)
 
   -- flags as they come, before the first that is up
-  pub alive-begin : (k : ℕ) (alive : List Bool) → ((j : ℕ) → j < k → up j ≡ false) → ((j : ℕ) → get_or alive j false ≡ up j) → Alive f up first k alive
-  alive-begin k alive none same = record { before = λ j h. same j ∙ none j h ∙ and_no (up j) _ (none j h); after = λ j h. same j }
+  pub alive_begin : (k : ℕ) (alive : List Bool) → ((j : ℕ) → j < k → up j ≡ false) → ((j : ℕ) → get_or alive j false ≡ up j) → Alive f up first k alive
+  alive_begin k alive none same = record { before = λ j h. same j ∙ none j h ∙ and_no (up j) _ (none j h); after = λ j h. same j }
 
   module _ (entries : ℕ) (sized : (j : ℕ) → length (f j) ≡ entries) where
-    pub leader-length : (k : ℕ) → length (lead k) ≡ entries
+    pub leader_length : (k : ℕ) → length (lead k) ≡ entries
     unfolding leader
-    leader-length zero = sized first
-    leader-length (suc k) =
-        let so_far = leader-length k in
-        leader-step (λ (a : List ℕ). length a ≡ entries) k (λ d. so_far) (λ n. so_far) (λ u t. sized k)
+    leader_length zero = sized first
+    leader_length (suc k) =
+        let so_far = leader_length k in
+        leader_step (λ (a : List ℕ). length a ≡ entries) k (λ d. so_far) (λ n. so_far) (λ u t. sized k)
 
-    pub level-or-worse : (k j : ℕ) → j < k → up j ≡ true → (lead k ≡ f j) ⊎ T (fewer (lead k) (f j))
-    level-or-worse k j h u =
-        ⊎_elim inl (⊎_elim inr (λ b. absurd (T_not (fewer (f j) (lead k)) (leader-least k j h u) b)))
-        (fewer-total (lead k) (f j) (leader-length k ∙ sym (sized j)))
+    pub level_or_worse : (k j : ℕ) → j < k → up j ≡ true → (lead k ≡ f j) ⊎ T (fewer (lead k) (f j))
+    level_or_worse k j h u =
+        ⊎_elim inl (⊎_elim inr (λ b. absurd (T_not (fewer (f j) (lead k)) (leader_least k j h u) b)))
+        (fewer-total (lead k) (f j) (leader_length k ∙ sym (sized j)))
 
     -- ---- the flags
 
@@ -167,31 +167,31 @@ module _ (f : ℕ → List ℕ) (up : ℕ → Bool) (first : ℕ) where
       later : (j : ℕ) → k + 1 ≤ j → get_or alive j false ≡ up j
       later j h = so_far.after j (omega arith)
 
-      pub alive-down : up k ≡ false → Alive f up first (k + 1) alive
-      alive-down d = next (lead k) alive (leader-down k d) so_far.before (here ∙ d ∙ and_no (up k) _ d) later
+      pub alive_down : up k ≡ false → Alive f up first (k + 1) alive
+      alive_down d = next (lead k) alive (leader_down k d) so_far.before (here ∙ d ∙ and_no (up k) _ d) later
 
-      pub alive-worse : T (fewer (lead k) (f k)) → Alive f up first (k + 1) (set alive k false)
-      alive-worse t =
-          next (lead k) (set alive k false) (leader-worse k t)
+      pub alive_worse : T (fewer (lead k) (f k)) → Alive f up first (k + 1) (set alive k false)
+      alive_worse t =
+          next (lead k) (set alive k false) (leader_worse k t)
           (λ j h. get_or-set_other alive k j false false (λ e. omega arith) ∙ so_far.before j h)
           (put_down_at k alive ∙ bettered_down (up k) (fewer (lead k) (f k)) t)
           (λ j h. get_or-set_other alive k j false false (λ e. omega arith) ∙ later j h)
 
       -- those level with the best so far are worse than one that betters it
-      passed-by : T (fewer (f k) (lead k)) → (j : ℕ) → j < k → up j ≡ true → T (fewer (f k) (f j))
-      passed-by t j h u =
-          ⊎_elim (λ e. subst (λ (a : List ℕ). T (fewer (f k) a)) e t) (fewer_transitive (f k) (lead k) (f j) t) (level-or-worse k j h u)
+      passed_by : T (fewer (f k) (lead k)) → (j : ℕ) → j < k → up j ≡ true → T (fewer (f k) (f j))
+      passed_by t j h u =
+          ⊎_elim (λ e. subst (λ (a : List ℕ). T (fewer (f k) a)) e t) (fewer_transitive (f k) (lead k) (f j) t) (level_or_worse k j h u)
 
-      pub alive-better : up k ≡ true → T (fewer (f k) (lead k)) → Alive f up first (k + 1) (dropped k alive)
-      alive-better is_up t =
-          next (f k) (dropped k alive) (leader-better k is_up t)
+      pub alive_better : up k ≡ true → T (fewer (f k) (lead k)) → Alive f up first (k + 1) (dropped k alive)
+      alive_better is_up t =
+          next (f k) (dropped k alive) (leader_better k is_up t)
           (λ j h.
           dropped_before k j alive h
-          ∙ ⊎_elim (λ u. bettered_down (up j) (fewer (f k) (f j)) (passed-by t j h u)) (λ d. and_no (up j) _ d) (up_or_down (up j)))
+          ∙ ⊎_elim (λ u. bettered_down (up j) (fewer (f k) (f j)) (passed_by t j h u)) (λ d. and_no (up j) _ d) (up_or_down (up j)))
           (dropped_after k k alive (omega arith) ∙ here ∙ level_stays (up k) (fewer (f k) (f k)) (not_itself (f k)))
           (λ j h. dropped_after k j alive (omega arith) ∙ later j h)
 
-      pub alive-level : f k ≡ lead k → Alive f up first (k + 1) alive
-      alive-level e =
+      pub alive_level : f k ≡ lead k → Alive f up first (k + 1) alive
+      alive_level e =
           let level : T (not (fewer (lead k) (f k))) = subst (λ (a : List ℕ). T (not (fewer a (f k)))) e (not_itself (f k)) in
-          next (lead k) alive (leader-level k e) so_far.before (here ∙ level_stays (up k) (fewer (lead k) (f k)) level) later
+          next (lead k) alive (leader_level k e) so_far.before (here ∙ level_stays (up k) (fewer (lead k) (f k)) level) later

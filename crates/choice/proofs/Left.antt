@@ -19,13 +19,13 @@ module _ (o : Order) where
   -- of any that are offered
   module _ {ps table plain before after : List ℕ} {r : Outcome} (counted : Counted table plain)
       (chose : Chose o.m (o.d - 1) ps table plain before after r) where
-    left-is-best : left_over o.m ps table plain (o.d - 1) ≡ best (undetected_counts o) ps
+    left_is_best : left_over o.m ps table plain (o.d - 1) ≡ best (undetected_counts o) ps
     unfolding left_over
-    left-is-best = ap (λ (counts : ℕ → List ℕ). best counts ps) (fun_ext counted)
+    left_is_best = ap (λ (counts : ℕ → List ℕ). best counts ps) (fun_ext counted)
 
     -- the undetected list
-    pub chosen-counts : after ≡ laid (undetected_counts o r.polynomial) before
-    chosen-counts =
+    pub chosen_counts : after ≡ laid (undetected_counts o r.polynomial) before
+    chosen_counts =
         let same = counted (first_of (left_over o.m ps table plain (o.d - 1))) ∙ ap (undetected_counts o) (sym chose.first) in
         chose.listed ∙ ap (λ (counts : List ℕ). laid counts before) same
 
@@ -33,5 +33,5 @@ module _ (o : Order) where
         record { polynomial = r.polynomial; shared = r.shared; undetected = undetected_counts o r.polynomial } ≡ choice_among (undetected_counts o) ps
     unfolding choice_among
     chosen-is-choice =
-        let is = left-is-best in
+        let is = left_is_best in
         ap₂ (λ (p k : ℕ). record { polynomial = p; shared = k; undetected = undetected_counts o p }) (chose.first ∙ ap first_of is) (chose.how_many ∙ ap length is)

@@ -11,7 +11,7 @@ use lib.ListN.{get_or, set, replicate, length-replicate, get_or-replicate}
 use lib.Seq.{get_or-set_same, get_or-set_other}
 use Rattle.lists.specs.Lists.{up_from, filter}
 use Rattle.lists.proofs.Tests.{true_of_T, false_of_T_not}
-use Rattle.lists.proofs.Member.{up_from_bounds, in_up_from, of-filter, in-filter}
+use Rattle.lists.proofs.Member.{up_from_bounds, in_up_from, of_filter, in_filter}
 use Rattle.lists.proofs.Sorted.{Sorted, up_from-sorted, filter-sorted}
 use Rattle.choice.specs.Choice.{candidates, first_of}
 use Rattle.choice.specs.Model.Steps.{alive_below, offered_by}
@@ -48,32 +48,32 @@ module _ (flags : List Bool) (n : ℕ) where
   abbrev pub Up : ℕ → Type 0
   Up k = (k < n) × (get_or flags k false ≡ true)
 
-  pub of-alive : {k : ℕ} → Memᴰ k (alive_below flags n) → Up k
+  pub of_alive : {k : ℕ} → Memᴰ k (alive_below flags n) → Up k
   unfolding alive_below
-  of-alive {k} member =
-      let h = of-filter (up flags) (up_from 0 n) member in
+  of_alive {k} member =
+      let h = of_filter (up flags) (up_from 0 n) member in
       let b = up_from_bounds 0 n h.0 in
       (omega arith, true_of_T (up flags k) h.1)
 
-  pub in-alive : {k : ℕ} → Up k → Memᴰ k (alive_below flags n)
+  pub in_alive : {k : ℕ} → Up k → Memᴰ k (alive_below flags n)
   unfolding alive_below
-  in-alive u = in-filter (up flags) (up_from 0 n) (in_up_from 0 n (omega arith) (omega (arith, u.0))) (subst T (sym u.1) tt)
+  in_alive u = in_filter (up flags) (up_from 0 n) (in_up_from 0 n (omega arith) (omega (arith, u.0))) (subst T (sym u.1) tt)
 
-  alive-sorted : Sorted ◌<◌ (alive_below flags n)
+  alive_sorted : Sorted ◌<◌ (alive_below flags n)
   unfolding alive_below
-  alive-sorted = filter-sorted ◌<◌ (up flags) (up_from 0 n) (up_from-sorted 0 n)
+  alive_sorted = filter-sorted ◌<◌ (up flags) (up_from 0 n) (up_from-sorted 0 n)
 
   -- the first, where one is up
   module _ {k first : ℕ} (some : Up k) (e : first ≡ first_of (alive_below flags n)) where
-    pub first-is-up : Up first
-    first-is-up = of-alive (Memᴰ.cast e (first_of_member (alive_below flags n) (in-alive some)))
+    pub first_is_up : Up first
+    first_is_up = of_alive (Memᴰ.cast e (first_of_member (alive_below flags n) (in_alive some)))
 
     pub none_before : (j : ℕ) → j < first → get_or flags j false ≡ false
     none_before j h = false_of_T_not (up flags j) (not_T (up flags j) (λ t. later (true_of_T (up flags j) t)))
       where
         later : get_or flags j false ≡ true → ⊥
         later u =
-            let least = first_least (alive_below flags n) alive-sorted j (in-alive (omega (arith, first-is-up.0), u)) in
+            let least = first_least (alive_below flags n) alive_sorted j (in_alive (omega (arith, first_is_up.0), u)) in
             omega (arith, e, least)
 
 -- ---- those that are offered
@@ -85,19 +85,19 @@ pub record OfferedNumber (m : ℕ) (flags : List Bool) (p : ℕ) : Type 0 where
   pub named : 2 ^ m + 2 * k + 1 ≡ p
 
 module _ (m : ℕ) (flags : List Bool) where
-  pub offered-number : (p : ℕ) → Memᴰ p (offered_by m flags) → OfferedNumber m flags p
+  pub offered_number : (p : ℕ) → Memᴰ p (offered_by m flags) → OfferedNumber m flags p
   unfolding offered_by
-  offered-number p member =
+  offered_number p member =
       let h = Memᴰ.of_map (λ k. 2 ^ m + 2 * k + 1) (alive_below flags (2 ^ (m - 1))) member in
-      record { k = h.0; is_up = of-alive flags (2 ^ (m - 1)) h.1; named = h.2 }
+      record { k = h.0; is_up = of_alive flags (2 ^ (m - 1)) h.1; named = h.2 }
 
-  pub offered-member : {k : ℕ} → Up flags (2 ^ (m - 1)) k → Memᴰ (2 ^ m + 2 * k + 1) (offered_by m flags)
+  pub offered_member : {k : ℕ} → Up flags (2 ^ (m - 1)) k → Memᴰ (2 ^ m + 2 * k + 1) (offered_by m flags)
   unfolding offered_by
-  offered-member u = Memᴰ.map (λ k. 2 ^ m + 2 * k + 1) (in-alive flags (2 ^ (m - 1)) u)
+  offered_member u = Memᴰ.map (λ k. 2 ^ m + 2 * k + 1) (in_alive flags (2 ^ (m - 1)) u)
 
   -- whoever is offered has a flag that is up
-  pub some-offered-of : {p : ℕ} → Memᴰ p (offered_by m flags) → (k : ℕ) × (k < 2 ^ (m - 1)) × (get_or flags k false ≡ true)
-  some-offered-of {p} member = let h = offered-number p member in (h.k, h.is_up.0, h.is_up.1)
+  pub some_offered_of : {p : ℕ} → Memᴰ p (offered_by m flags) → (k : ℕ) × (k < 2 ^ (m - 1)) × (get_or flags k false ≡ true)
+  some_offered_of {p} member = let h = offered_number p member in (h.k, h.is_up.0, h.is_up.1)
 
 -- all of them
 pub all_offered : (m : ℕ) → m ≤ 12 → offered_by m (replicate 2048 true) ≡ candidates m
@@ -114,23 +114,23 @@ module _ (k : ℕ) (inside : k < 2048) where
   abbrev alone : List Bool
   alone = set (replicate 2048 false) k true
 
-  alone-up : get_or alone k false ≡ true
-  alone-up = get_or-set_same (replicate 2048 false) k true false (omega (arith, length-replicate 2048 false))
+  alone_up : get_or alone k false ≡ true
+  alone_up = get_or-set_same (replicate 2048 false) k true false (omega (arith, length-replicate 2048 false))
 
-  others-down : (j : ℕ) → (j ≡ k → ⊥) → j < 2048 → get_or alone j false ≡ false
-  others-down j other h = get_or-set_other (replicate 2048 false) k j true false other ∙ get_or-replicate 2048 j false false h
+  others_down : (j : ℕ) → (j ≡ k → ⊥) → j < 2048 → get_or alone j false ≡ false
+  others_down j other h = get_or-set_other (replicate 2048 false) k j true false other ∙ get_or-replicate 2048 j false false h
 
-  alone-alive : (n : ℕ) → n ≤ 2048 → k < n → alive_below alone n ≡ k ∷ []
-  alone-alive n few below =
+  alone_alive : (n : ℕ) → n ≤ 2048 → k < n → alive_below alone n ≡ k ∷ []
+  alone_alive n few below =
       let parts : n ≡ k + 1 + (n - (k + 1)) = omega arith in
       let from-none : k ≡ 0 + k = omega arith in
-      ap (alive_below alone) parts ∙ none_between alone (k + 1) (n - (k + 1)) (λ i a b. others-down i (λ e. omega arith) (omega arith))
-      ∙ below_up alone k alone-up
+      ap (alive_below alone) parts ∙ none_between alone (k + 1) (n - (k + 1)) (λ i a b. others_down i (λ e. omega arith) (omega arith))
+      ∙ below_up alone k alone_up
       ∙ ap (λ (l : List ℕ). l ++ (k ∷ []))
-      (ap (alive_below alone) from-none ∙ none_between alone 0 k (λ i a b. others-down i (λ e. omega arith) (omega arith)) ∙ none_below alone)
+      (ap (alive_below alone) from-none ∙ none_between alone 0 k (λ i a b. others_down i (λ e. omega arith) (omega arith)) ∙ none_below alone)
 
 pub one_offered : (m k p : ℕ) → m ≤ 12 → k < 2 ^ (m - 1) → 2 ^ m + 2 * k + 1 ≡ p → offered_by m (set (replicate 2048 false) k true) ≡ p ∷ []
 unfolding offered_by
 one_offered m k p small below named =
     let few = few_candidates m small in
-    ap (map (λ i. 2 ^ m + 2 * i + 1)) (alone-alive k (omega arith) (2 ^ (m - 1)) few below) ∙ ap (λ (q : ℕ). q ∷ []) named
+    ap (map (λ i. 2 ^ m + 2 * i + 1)) (alone_alive k (omega arith) (2 ^ (m - 1)) few below) ∙ ap (λ (q : ℕ). q ∷ []) named

@@ -19,9 +19,9 @@ use Rattle.lists.proofs.Lengths.{get_or-map-up_from, length-map-up_from, up_from
 use Rattle.parity.specs.Model.Parity.{check_table, Divisor}
 use Rattle.paths.specs.Part.{paths_to}
 use Rattle.undetected.specs.Model.Steps.{divided_of, divided_counts, even_between, up_to, counted_from, Readable}
-use Rattle.undetected.proofs.Counting.{up_to_within, even-le}
+use Rattle.undetected.proofs.Counting.{up_to_within, even_le}
 use Rattle.undetected.proofs.Counted.{counted-weight}
-use Rattle.undetected.proofs.Counts.{length-dividedCounts, counted-all}
+use Rattle.undetected.proofs.Counts.{length-divided_counts, counted-all}
 use Rattle.choice.specs.Choice.{fewer}
 use Rattle.choice.specs.Model.Steps.{laid}
 use Rattle.choice.proofs.Fewer.{fewer_of_lowest}
@@ -34,19 +34,19 @@ module _ (m p : ℕ) (table plain : List ℕ) (entries : ℕ) where
   count_at j h = get_or-map-up_from (divided_of m p table plain) 0 entries j 0 h ∙ ap (divided_of m p table plain) (zero-add j)
 
   -- those before entry j, and the others
-  counts-split : (j : ℕ) → j ≤ entries
+  counts_split : (j : ℕ) → j ≤ entries
       → divided_counts m table plain entries p ≡ map (divided_of m p table plain) (up_from 0 j) ++ map (divided_of m p table plain) (up_from j (entries - j))
   unfolding divided_counts
-  counts-split j h =
+  counts_split j h =
       let f : ℕ → ℕ = divided_of m p table plain in
       let e : entries ≡ j + (entries - j) = omega arith in
       ap (λ (n : ℕ). map f (up_from 0 n)) e ∙ ap (map f) (up_from-append 0 j (entries - j)) ∙ map-append f (up_from 0 j) (up_from (0 + j) (entries - j))
       ∙ ap (λ (n : ℕ). map f (up_from 0 j) ++ map f (up_from n (entries - j))) (zero-add j)
 
-  front-of-counts : (j : ℕ) → j ≤ entries → take j (divided_counts m table plain entries p) ≡ map (divided_of m p table plain) (up_from 0 j)
-  front-of-counts j h =
+  front_of_counts : (j : ℕ) → j ≤ entries → take j (divided_counts m table plain entries p) ≡ map (divided_of m p table plain) (up_from 0 j)
+  front_of_counts j h =
       let f : ℕ → ℕ = divided_of m p table plain in
-      ap (take j) (counts-split j h) ∙ take_at (map f (up_from 0 j)) (map f (up_from j (entries - j))) j (length-map-up_from f 0 j)
+      ap (take j) (counts_split j h) ∙ take_at (map f (up_from 0 j)) (map f (up_from j (entries - j))) j (length-map-up_from f 0 j)
 
 -- ---- lists that agree before an entry
 
@@ -75,7 +75,7 @@ pub counted-laid : (m p : ℕ) (table plain : List ℕ) (entries : ℕ) (l : Lis
 unfolding laid
 counted-laid m p table plain entries l =
     counted-all m p table plain entries l
-    ∙ ap (λ (k : ℕ). divided_counts m table plain entries p ++ drop k l) (sym (length-dividedCounts m p table plain entries))
+    ∙ ap (λ (k : ℕ). divided_counts m table plain entries p ++ drop k l) (sym (length-divided_counts m p table plain entries))
 
 pub take-laid : (entries : ℕ) (a l : List ℕ) → length a ≡ entries → take entries (laid a l) ≡ a
 unfolding laid
@@ -88,29 +88,29 @@ laid_again entries a b l la lb =
     ap (λ (x : List ℕ). b ++ x) (drop_at a (drop (length a) l) (length b) (la ∙ sym lb) ∙ ap (λ (k : ℕ). drop k l) (la ∙ sym lb))
 
 module _ (entries : ℕ) (a l : List ℕ) (sized : length a ≡ entries) (room : entries ≤ length l) where
-  pub laid-at : (j : ℕ) → j < entries → get_or (laid a l) j 0 ≡ get_or a j 0
+  pub laid_at : (j : ℕ) → j < entries → get_or (laid a l) j 0 ≡ get_or a j 0
   unfolding laid
-  laid-at j h = get_or-append a (drop (length a) l) 0 j (omega arith)
+  laid_at j h = get_or-append a (drop (length a) l) 0 j (omega arith)
 
   pub length-laid : length (laid a l) ≡ length l
   unfolding laid
   length-laid = omega (arith, length-append a (drop (length a) l), length-drop (length a) l)
 
   -- counted anew from the first entry that differs on
-  pub laid-recounted : (m p : ℕ) (table plain : List ℕ) (j : ℕ) → j ≤ entries → Agree j (divided_counts m table plain entries p) a
+  pub laid_recounted : (m p : ℕ) (table plain : List ℕ) (j : ℕ) → j ≤ entries → Agree j (divided_counts m table plain entries p) a
       → counted_from m p table plain j entries (laid a l) ≡ laid (divided_counts m table plain entries p) l
   unfolding counted_from laid
-  laid-recounted m p table plain j h agree =
+  laid_recounted m p table plain j h agree =
       let f : ℕ → ℕ = divided_of m p table plain in
       let mine : List ℕ = divided_counts m table plain entries p in
-      let n : length mine ≡ entries = length-dividedCounts m p table plain entries in
+      let n : length mine ≡ entries = length-divided_counts m p table plain entries in
       let front : take j (a ++ drop (length a) l) ≡ map f (up_from 0 j) =
-      take-append-le j a (drop (length a) l) (omega arith) ∙ sym (agree_front entries j mine a n sized h agree) ∙ front-of-counts m p table plain entries j h in
+      take-append-le j a (drop (length a) l) (omega arith) ∙ sym (agree_front entries j mine a n sized h agree) ∙ front_of_counts m p table plain entries j h in
       let behind : drop entries (a ++ drop (length a) l) ≡ drop (length mine) l =
       drop_at a (drop (length a) l) entries sized ∙ ap (λ (k : ℕ). drop k l) (sized ∙ sym n) in
       ap₂ (λ (x y : List ℕ). x ++ (map f (up_from j (entries - j)) ++ y)) front behind
       ∙ sym (append_assoc (map f (up_from 0 j)) (map f (up_from j (entries - j))) (drop (length mine) l))
-      ∙ ap (λ (x : List ℕ). x ++ drop (length mine) l) (sym (counts-split m p table plain entries j h))
+      ∙ ap (λ (x : List ℕ). x ++ drop (length mine) l) (sym (counts_split m p table plain entries j h))
 
 -- ---- a count up to a limit
 
@@ -137,7 +137,7 @@ module _ {bits entries m p at : ℕ} {table plain rows : List ℕ} (readable : R
   even-counted : even_between rows m table at (at + get_or plain j 0) ≡ divided_of m p table plain j
   even-counted =
       let all : ℕ = get_or plain j 0 in
-      let few = even-le rows m table at (at + all) in
+      let few = even_le rows m table at (at + all) in
       counted-weight bits entries m p table plain readable divisor rows j at (even_between rows m table at (at + all)) made placed
       (up_to_within all (even_between rows m table at (at + all)) (omega arith))
 
@@ -146,8 +146,8 @@ module _ {bits entries m p at : ℕ} {table plain rows : List ℕ} (readable : R
       → Verdict j limit found best (divided_counts m table plain entries p)
   verdict {best} {limit} {found} h sized agree el ef = record {
     worse = λ t. fewer_of_lowest best mine (j, omega arith, λ i l. sym (agree i l), omega (arith, found_more t));
-    better = λ t. fewer_of_lowest mine best (j, omega (arith, length-dividedCounts m p table plain entries), agree, omega (arith, found-less t));
-    level = λ t. below_more (λ i. get_or mine i 0 ≡ get_or best i 0) j agree (omega (arith, found-same t));
+    better = λ t. fewer_of_lowest mine best (j, omega (arith, length-divided_counts m p table plain entries), agree, omega (arith, found_less t));
+    level = λ t. below_more (λ i. get_or mine i 0 ≡ get_or best i 0) j agree (omega (arith, found_same t));
   }
     where
       mine : List ℕ
@@ -162,8 +162,8 @@ module _ {bits entries m p at : ℕ} {table plain rows : List ℕ} (readable : R
       found_more : limit < found → limit < c
       found_more t = ⊎_elim (λ k. omega arith) (λ k. k.0) cases
 
-      found-less : found < limit → c < limit
-      found-less t = ⊎_elim (λ k. omega arith) (λ k. omega arith) cases
+      found_less : found < limit → c < limit
+      found_less t = ⊎_elim (λ k. omega arith) (λ k. omega arith) cases
 
-      found-same : limit ≡ found → c ≡ limit
-      found-same t = ⊎_elim (λ k. omega arith) (λ k. omega arith) cases
+      found_same : limit ≡ found → c ≡ limit
+      found_same t = ⊎_elim (λ k. omega arith) (λ k. omega arith) cases

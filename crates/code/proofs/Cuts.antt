@@ -27,35 +27,35 @@ module _ (v : ℕ) where
       ∙ walk-cut m k (next v s (c % 2)) (c / 2)
       ∙ ap (walk v k (walk v m (next v s (c % 2)) (c / 2))) (later_inputs m c)
 
-  pub walkWeight-cut : (gs : List ℕ) (m k s c : ℕ)
+  pub walk_weight-cut : (gs : List ℕ) (m k s c : ℕ)
       → walk_weight gs v (m + k) s c ≡ walk_weight gs v m s c + walk_weight gs v k (walk v m s c) (c / 2 ^ m)
   unfolding walk walk_weight
-  walkWeight-cut gs zero k s c = ap₂ (λ (n x : ℕ). walk_weight gs v n s x) (zero-add k) (sym (div-one c)) ∙ sym (zero-add (walk_weight gs v k s (c / 1)))
-  walkWeight-cut gs (suc m) k s c =
+  walk_weight-cut gs zero k s c = ap₂ (λ (n x : ℕ). walk_weight gs v n s x) (zero-add k) (sym (div-one c)) ∙ sym (zero-add (walk_weight gs v k s (c / 1)))
+  walk_weight-cut gs (suc m) k s c =
       let s' : ℕ = next v s (c % 2) in
       ap (λ (n : ℕ). walk_weight gs v n s c) (suc-add m k)
       ∙ ap (λ (x : ℕ). step_weight gs s (c % 2) + x)
-      (walkWeight-cut gs m k s' (c / 2)
+      (walk_weight-cut gs m k s' (c / 2)
       ∙ ap (λ (x : ℕ). walk_weight gs v m s' (c / 2) + walk_weight gs v k (walk v m s' (c / 2)) x) (later_inputs m c))
       ∙ sym (add_assoc (step_weight gs s (c % 2)) (walk_weight gs v m s' (c / 2)) (walk_weight gs v k (walk v m s' (c / 2)) (c / 2 ^ suc m)))
 
   -- ---- only the inputs of the steps taken count
 
-  pub walk-cong : (l s c c' : ℕ) → ((j : ℕ) → j < l → bit j c ≡ bit j c') → walk v l s c ≡ walk v l s c'
+  pub walk_cong : (l s c c' : ℕ) → ((j : ℕ) → j < l → bit j c ≡ bit j c') → walk v l s c ≡ walk v l s c'
   unfolding walk
-  walk-cong zero s c c' h = refl
-  walk-cong (suc l) s c c' h =
+  walk_cong zero s c c' h = refl
+  walk_cong (suc l) s c c' h =
       walk_last v l s c
-      ∙ ap₂ (next v) (walk-cong l s c c' (λ j g. h j (omega arith))) (h l (omega arith))
+      ∙ ap₂ (next v) (walk_cong l s c c' (λ j g. h j (omega arith))) (h l (omega arith))
       ∙ sym (walk_last v l s c')
 
-  pub walkWeight-cong : (gs : List ℕ) (l s c c' : ℕ) → ((j : ℕ) → j < l → bit j c ≡ bit j c') → walk_weight gs v l s c ≡ walk_weight gs v l s c'
+  pub walk_weight_cong : (gs : List ℕ) (l s c c' : ℕ) → ((j : ℕ) → j < l → bit j c ≡ bit j c') → walk_weight gs v l s c ≡ walk_weight gs v l s c'
   unfolding walk_weight
-  walkWeight-cong gs zero s c c' h = refl
-  walkWeight-cong gs (suc l) s c c' h =
+  walk_weight_cong gs zero s c c' h = refl
+  walk_weight_cong gs (suc l) s c c' h =
       let before : (j : ℕ) → j < l → bit j c ≡ bit j c' = λ j g. h j (omega arith) in
       walk_weight_last gs v l s c
-      ∙ ap₂ (λ (x y : ℕ). x + y) (walkWeight-cong gs l s c c' before) (ap₂ (step_weight gs) (walk-cong l s c c' before) (h l (omega arith)))
+      ∙ ap₂ (λ (x y : ℕ). x + y) (walk_weight_cong gs l s c c' before) (ap₂ (step_weight gs) (walk_cong l s c c' before) (h l (omega arith)))
       ∙ sym (walk_weight_last gs v l s c')
 
   -- ---- an input number made of low inputs, taken first, and of high ones
@@ -65,19 +65,19 @@ module _ (v : ℕ) where
     abbrev joint : ℕ
     joint = high' * 2 ^ m + low
 
-    pub walk-low : (t s : ℕ) → t ≤ m → walk v t s (high' * 2 ^ m + low) ≡ walk v t s low
-    walk-low t s h = walk-cong t s joint low (λ j l. bit_low j m high' low (omega arith))
+    pub walk_low : (t s : ℕ) → t ≤ m → walk v t s (high' * 2 ^ m + low) ≡ walk v t s low
+    walk_low t s h = walk_cong t s joint low (λ j l. bit_low j m high' low (omega arith))
 
-    pub walkWeight-low : (gs : List ℕ) (t s : ℕ) → t ≤ m → walk_weight gs v t s (high' * 2 ^ m + low) ≡ walk_weight gs v t s low
-    walkWeight-low gs t s h = walkWeight-cong gs t s joint low (λ j l. bit_low j m high' low (omega arith))
+    pub walk_weight_low : (gs : List ℕ) (t s : ℕ) → t ≤ m → walk_weight gs v t s (high' * 2 ^ m + low) ≡ walk_weight gs v t s low
+    walk_weight_low gs t s h = walk_weight_cong gs t s joint low (λ j l. bit_low j m high' low (omega arith))
 
     module _ (fits : low < 2 ^ m) where
-      pub walk-high : (k s : ℕ) → walk v (m + k) s (high' * 2 ^ m + low) ≡ walk v k (walk v m s low) high'
-      walk-high k s = walk-cut m k s joint ∙ ap₂ (walk v k) (walk-low m s (omega arith)) (high high' m fits)
+      pub walk_high : (k s : ℕ) → walk v (m + k) s (high' * 2 ^ m + low) ≡ walk v k (walk v m s low) high'
+      walk_high k s = walk-cut m k s joint ∙ ap₂ (walk v k) (walk_low m s (omega arith)) (high high' m fits)
 
-      pub walkWeight-high : (gs : List ℕ) (k s : ℕ)
+      pub walk_weight_high : (gs : List ℕ) (k s : ℕ)
           → walk_weight gs v (m + k) s (high' * 2 ^ m + low) ≡ walk_weight gs v m s low + walk_weight gs v k (walk v m s low) high'
-      walkWeight-high gs k s =
-          walkWeight-cut gs m k s joint
-          ∙ ap₂ (λ (x y : ℕ). x + y) (walkWeight-low gs m s (omega arith))
-          (ap₂ (walk_weight gs v k) (walk-low m s (omega arith)) (high high' m fits))
+      walk_weight_high gs k s =
+          walk_weight-cut gs m k s joint
+          ∙ ap₂ (λ (x y : ℕ). x + y) (walk_weight_low gs m s (omega arith))
+          (ap₂ (walk_weight gs v k) (walk_low m s (omega arith)) (high high' m fits))

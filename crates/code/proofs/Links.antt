@@ -1,6 +1,6 @@
--- What the two kinds of link share: either sends the products modulo x^T + 1 of its steps T (`weight-is-cyclic`, `codeword-is-cyclic`), so what is
+-- What the two kinds of link share: either sends the products modulo x^T + 1 of its steps T (`weight_is_cyclic`, `codeword_is_cyclic`), so what is
 -- proved of words of T bits holds of both. And what sets a terminated word apart among these: its walk begins at state 0, so its mark is state 0 with
--- no turn, and no other word has this mark (`mark-of-word`, `word-of-mark`).
+-- no turn, and no other word has this mark (`mark_of_word`, `word_of_mark`).
 -- Assumes nothing.
 use mathlib.Core.Path.{◌≡◌, refl, sym, ap, ap₂, ◌∙◌, subst}
 use mathlib.Core.Bool.{Bool, true, false, cond}
@@ -14,7 +14,7 @@ use lib.Count.{ones}
 use lib.Dec.{eqb}
 use lib.Pow.{pow_pos, pow_mono, split}
 use Rattle.lists.specs.Lists.{up_from}
-use Rattle.lists.proofs.Blocks.{flatMap-cong-on, map_cong_on}
+use Rattle.lists.proofs.Blocks.{flat_map_cong_on, map_cong_on}
 use Rattle.poly.specs.Poly.{bit, from_bits, ◌⊗◌, remainder}
 use Rattle.poly.proofs.Bits.{bit_above, bit_zero, bit_low, eq_by_bits, from_bits_cong}
 use Rattle.poly.proofs.Product.{⊗_lt}
@@ -29,7 +29,7 @@ use Rattle.code.specs.Model.Cyclic.{cyclic_output, cyclic_weight, cyclic_codewor
 use Rattle.code.specs.Model.Steps.{most_steps}
 use Rattle.code.proofs.States.{state_at_period, state_at-bit}
 use Rattle.code.proofs.Steps.{Fit}
-use Rattle.code.proofs.Marks.{Marked, mark-unique-state, mark-unique-turn}
+use Rattle.code.proofs.Marks.{Marked, mark_unique_state, mark_unique_turn}
 
 -- ---- how many steps and states
 
@@ -38,17 +38,17 @@ module _ (o : Order) where
   unfolding steps_of
   steps-terminated e = ap (λ (b : Bool). cond b (o.N + o.v) o.N) e
 
-  pub steps-tail-biting : terminated o ≡ false → steps_of o ≡ o.N
+  pub steps_tail_biting : terminated o ≡ false → steps_of o ≡ o.N
   unfolding steps_of
-  steps-tail-biting e = ap (λ (b : Bool). cond b (o.N + o.v) o.N) e
+  steps_tail_biting e = ap (λ (b : Bool). cond b (o.N + o.v) o.N) e
 
-  pub states-terminated : terminated o ≡ true → event_states o ≡ 1
+  pub states_terminated : terminated o ≡ true → event_states o ≡ 1
   unfolding event_states
-  states-terminated e = ap (λ (b : Bool). cond b 1 (2 ^ o.v)) e
+  states_terminated e = ap (λ (b : Bool). cond b 1 (2 ^ o.v)) e
 
-  pub states-tail-biting : terminated o ≡ false → event_states o ≡ 2 ^ o.v
+  pub states_tail_biting : terminated o ≡ false → event_states o ≡ 2 ^ o.v
   unfolding event_states
-  states-tail-biting e = ap (λ (b : Bool). cond b 1 (2 ^ o.v)) e
+  states_tail_biting e = ap (λ (b : Bool). cond b 1 (2 ^ o.v)) e
 
   pub bits_fit : o.N ≤ steps_of o
   unfolding steps_of
@@ -58,51 +58,51 @@ module _ (o : Order) where
       by true = omega arith
       by false = le_refl o.N
 
-  pub steps-le : steps_of o ≤ o.N + o.v
+  pub steps_le : steps_of o ≤ o.N + o.v
   unfolding steps_of
-  steps-le = by (terminated o)
+  steps_le = by (terminated o)
     where
       by : (b : Bool) → cond b (o.N + o.v) o.N ≤ o.N + o.v
       by true = le_refl (o.N + o.v)
       by false = omega arith
 
-  pub states-le : event_states o ≤ 2 ^ o.v
+  pub states_le : event_states o ≤ 2 ^ o.v
   unfolding event_states
-  states-le = by (terminated o)
+  states_le = by (terminated o)
     where
       by : (b : Bool) → cond b 1 (2 ^ o.v) ≤ 2 ^ o.v
       by true = pow_pos o.v
       by false = le_refl (2 ^ o.v)
 
-  pub steps-some : 0 < o.N → 0 < steps_of o
-  steps-some h = let a = bits_fit in omega arith
+  pub steps_some : 0 < o.N → 0 < steps_of o
+  steps_some h = let a = bits_fit in omega arith
 
-  pub steps-longer : o.v ≤ o.N → o.v ≤ steps_of o
-  steps-longer h = let a = bits_fit in omega arith
+  pub steps_longer : o.v ≤ o.N → o.v ≤ steps_of o
+  steps_longer h = let a = bits_fit in omega arith
 
   -- of an accepted code
   module _ (acc : AcceptedCode o) where
-    pub few-steps : steps_of o ≤ most_steps
-    few-steps = let a = steps-le in let b = acc.small_memory in let c = acc.at_most_128 in omega arith
+    pub few_steps : steps_of o ≤ most_steps
+    few_steps = let a = steps_le in let b = acc.small_memory in let c = acc.at_most_128 in omega arith
 
-    pub memory-fits : o.v ≤ steps_of o
-    memory-fits = steps-longer acc.long_enough
+    pub memory_fits : o.v ≤ steps_of o
+    memory_fits = steps_longer acc.long_enough
 
-    pub some-steps : 0 < steps_of o
-    some-steps = let a = memory-fits in let b = acc.some_memory in omega arith
+    pub some_steps : 0 < steps_of o
+    some_steps = let a = memory_fits in let b = acc.some_memory in omega arith
 
   -- for shorter words: fewer steps, the same states
-  pub steps-shorter : (N : ℕ) → N ≤ o.N → steps_of (with_length N o) ≤ steps_of o
+  pub steps_shorter : (N : ℕ) → N ≤ o.N → steps_of (with_length N o) ≤ steps_of o
   unfolding steps_of terminated with_length
-  steps-shorter N h = by (eqb o.version 2)
+  steps_shorter N h = by (eqb o.version 2)
     where
       by : (b : Bool) → cond b (N + o.v) N ≤ cond b (o.N + o.v) o.N
       by true = omega arith
       by false = h
 
-  pub states-alike : (N : ℕ) → event_states (with_length N o) ≡ event_states o
+  pub states_alike : (N : ℕ) → event_states (with_length N o) ≡ event_states o
   unfolding event_states terminated with_length
-  states-alike N = refl
+  states_alike N = refl
 
   -- ---- either sends products modulo x^T + 1
 
@@ -110,31 +110,31 @@ module _ (o : Order) where
   wide_word u h = let wider : 2 ^ o.N ≤ 2 ^ steps_of o = pow_mono bits_fit in omega arith
 
   module _ (u : ℕ) (fits : u < 2 ^ o.N) where
-    pub output-is-cyclic : (g : ℕ) → g < 2 ^ suc o.v → output o g u ≡ cyclic_output (steps_of o) g u
+    pub output_is_cyclic : (g : ℕ) → g < 2 ^ suc o.v → output o g u ≡ cyclic_output (steps_of o) g u
     unfolding output steps_of cyclic_output
-    output-is-cyclic g h = by (terminated o)
+    output_is_cyclic g h = by (terminated o)
       where
         by : (b : Bool) → cond b (u ⊗ g) (remainder o.N (2 ^ o.N + 1) (u ⊗ g))
             ≡ remainder (cond b (o.N + o.v) o.N) (2 ^ cond b (o.N + o.v) o.N + 1) (u ⊗ g)
         by true = sym (remainder_small (o.N + o.v) (2 ^ (o.N + o.v) + 1) (u ⊗ g) (⊗_lt o.N o.v u g fits h))
         by false = refl
 
-    weightOf-is-cyclic : (gs : List ℕ) → Fit o.v gs → weight_of o gs u ≡ cyclic_weight (steps_of o) gs u
+    weight_of_is_cyclic : (gs : List ℕ) → Fit o.v gs → weight_of o gs u ≡ cyclic_weight (steps_of o) gs u
     unfolding weight_of cyclic_weight
-    weightOf-is-cyclic [] fit = refl
-    weightOf-is-cyclic (g ∷ gs) fit =
-        ap₂ (λ (x y : ℕ). ones x + y) (output-is-cyclic g (fit g (Memᴰ.head refl))) (weightOf-is-cyclic gs (λ h m. fit h (Memᴰ.tail m)))
+    weight_of_is_cyclic [] fit = refl
+    weight_of_is_cyclic (g ∷ gs) fit =
+        ap₂ (λ (x y : ℕ). ones x + y) (output_is_cyclic g (fit g (Memᴰ.head refl))) (weight_of_is_cyclic gs (λ h m. fit h (Memᴰ.tail m)))
 
-    pub weight-is-cyclic : Fit o.v o.generators → weight o u ≡ cyclic_weight (steps_of o) o.generators u
+    pub weight_is_cyclic : Fit o.v o.generators → weight o u ≡ cyclic_weight (steps_of o) o.generators u
     unfolding weight
-    weight-is-cyclic fit = weightOf-is-cyclic o.generators fit
+    weight_is_cyclic fit = weight_of_is_cyclic o.generators fit
 
-    pub codeword-is-cyclic : Fit o.v o.generators → codeword o u ≡ cyclic_codeword (steps_of o) o.generators u
+    pub codeword_is_cyclic : Fit o.v o.generators → codeword o u ≡ cyclic_codeword (steps_of o) o.generators u
     unfolding codeword cyclic_codeword
-    codeword-is-cyclic fit =
-        flatMap-cong-on (λ t. map (λ g. bit t (output o g u)) o.generators) (λ t. map (λ g. bit t (cyclic_output (steps_of o) g u)) o.generators)
+    codeword_is_cyclic fit =
+        flat_map_cong_on (λ t. map (λ g. bit t (output o g u)) o.generators) (λ t. map (λ g. bit t (cyclic_output (steps_of o) g u)) o.generators)
         (up_from 0 (steps_of o))
-        (λ t _. map_cong_on (λ g. bit t (output o g u)) (λ g. bit t (cyclic_output (steps_of o) g u)) o.generators (λ g m. ap (bit t) (output-is-cyclic g (fit g m))))
+        (λ t _. map_cong_on (λ g. bit t (output o g u)) (λ g. bit t (cyclic_output (steps_of o) g u)) o.generators (λ g m. ap (bit t) (output_is_cyclic g (fit g m))))
 
 -- ---- words of N + v bits whose v highest are 0
 
@@ -158,8 +158,8 @@ module _ (v N u : ℕ) (some : 0 < N) where
   around : 0 + T ≡ T - 0
   around = omega arith
 
-  pub unturned-mark : u < 2 ^ N → Marked v T u 0 0
-  unturned-mark fits = record {
+  pub unturned_mark : u < 2 ^ N → Marked v T u 0 0
+  unturned_mark fits = record {
     inside = omega arith;
     at = sym (ap (state_at v T u) around) ∙ state_at_period v T u 0 (omega arith) ∙ begins_at_zero v N u fits;
     least = λ t g h. omega arith;
@@ -167,9 +167,9 @@ module _ (v N u : ℕ) (some : 0 < N) where
   }
 
   -- the v bits above N are those of the first state
-  pub unturned-fits : u < 2 ^ T → Marked v T u 0 0 → u < 2 ^ N
+  pub unturned_fits : u < 2 ^ T → Marked v T u 0 0 → u < 2 ^ N
   unfolding place
-  unturned-fits wide m =
+  unturned_fits wide m =
       subst (λ (x : ℕ). x < 2 ^ N) (sym same) (mod-lt u (pow_pos N))
     where
       first : state_at v T u 0 ≡ 0
@@ -198,44 +198,44 @@ module _ (o : Order) where
   MarkOfLink i r = terminated o ≡ true → (i ≡ 0) × (r ≡ 0)
 
   module _ (some : 0 < o.N) {u i r : ℕ} (m : Marked o.v (steps_of o) u i r) where
-    pub mark-of-word : u < 2 ^ o.N → MarkOfLink i r
-    mark-of-word fits t =
+    pub mark_of_word : u < 2 ^ o.N → MarkOfLink i r
+    mark_of_word fits t =
         let m' = subst (λ (k : ℕ). Marked o.v k u i r) (steps-terminated o t) m in
-        let zero-mark = unturned-mark o.v o.N u some fits in
-        (mark-unique-state o.v (o.N + o.v) u m' zero-mark, mark-unique-turn o.v (o.N + o.v) u m' zero-mark)
+        let zero-mark = unturned_mark o.v o.N u some fits in
+        (mark_unique_state o.v (o.N + o.v) u m' zero-mark, mark_unique_turn o.v (o.N + o.v) u m' zero-mark)
 
-    pub word-of-mark : u < 2 ^ steps_of o → MarkOfLink i r → u < 2 ^ o.N
-    word-of-mark wide of-link = by (terminated o) refl
+    pub word_of_mark : u < 2 ^ steps_of o → MarkOfLink i r → u < 2 ^ o.N
+    word_of_mark wide of_link = by (terminated o) refl
       where
         by : (b : Bool) → terminated o ≡ b → u < 2 ^ o.N
         by true t =
             let steps = steps-terminated o t in
-            let zeros = of-link t in
-            unturned-fits o.v o.N u some (subst (λ (k : ℕ). u < 2 ^ k) steps wide)
+            let zeros = of_link t in
+            unturned_fits o.v o.N u some (subst (λ (k : ℕ). u < 2 ^ k) steps wide)
             (subst (λ (k : ℕ). Marked o.v k u 0 0) steps
             (subst (λ (x : ℕ). Marked o.v (steps_of o) u x 0) zeros.0 (subst (λ (x : ℕ). Marked o.v (steps_of o) u i x) zeros.1 m)))
-        by false t = subst (λ (k : ℕ). u < 2 ^ k) (steps-tail-biting o t) wide
+        by false t = subst (λ (k : ℕ). u < 2 ^ k) (steps_tail_biting o t) wide
 
   -- the states that begin events are those of such marks
-  pub begins-of-mark : {i : ℕ} → i < 2 ^ o.v → (terminated o ≡ true → i ≡ 0) → i < event_states o
-  begins-of-mark {i} state zero-state = by (terminated o) refl
+  pub begins_of_mark : {i : ℕ} → i < 2 ^ o.v → (terminated o ≡ true → i ≡ 0) → i < event_states o
+  begins_of_mark {i} state zero-state = by (terminated o) refl
     where
       by : (b : Bool) → terminated o ≡ b → i < event_states o
-      by true t = let e = states-terminated o t in let z = zero-state t in omega arith
-      by false t = let e = states-tail-biting o t in omega arith
+      by true t = let e = states_terminated o t in let z = zero-state t in omega arith
+      by false t = let e = states_tail_biting o t in omega arith
 
-  pub zero-begins : {i : ℕ} → i < event_states o → terminated o ≡ true → i ≡ 0
-  zero-begins h t = let e = states-terminated o t in omega arith
+  pub zero_begins : {i : ℕ} → i < event_states o → terminated o ≡ true → i ≡ 0
+  zero_begins h t = let e = states_terminated o t in omega arith
 
 -- ---- an order and the same for longer words
 
 module _ {o c : Order} (h : NoLonger o c) where
-  pub no-more-steps : steps_of o ≤ steps_of c
-  no-more-steps = subst (λ (x : Order). steps_of x ≤ steps_of c) (sym h.same) (steps-shorter c o.N h.at_most)
+  pub no_more_steps : steps_of o ≤ steps_of c
+  no_more_steps = subst (λ (x : Order). steps_of x ≤ steps_of c) (sym h.same) (steps_shorter c o.N h.at_most)
 
-  pub same-states : event_states o ≡ event_states c
-  same-states = ap event_states h.same ∙ states-alike c o.N
+  pub same_states : event_states o ≡ event_states c
+  same_states = ap event_states h.same ∙ states_alike c o.N
 
-  pub same-threshold : o.d ≡ c.d
+  pub same_threshold : o.d ≡ c.d
   unfolding with_length
-  same-threshold = ap (λ (x : Order). x.d) h.same
+  same_threshold = ap (λ (x : Order). x.d) h.same

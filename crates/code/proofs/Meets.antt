@@ -8,7 +8,7 @@ use lib.Dec.{T, ltb, eqb, ltb→lt, lt→ltb, eqb→eq, eqb_refl}
 use Rattle.lists.proofs.Tests.{T_and}
 use Rattle.poly.specs.Poly.{bit}
 use Rattle.code.specs.Trellis.{next, walk, first_meets}
-use Rattle.code.proofs.Cuts.{walk-cong}
+use Rattle.code.proofs.Cuts.{walk_cong}
 
 -- the walk of l steps from s ends at i, and is above i in between
 pub record Meets (v i l s c : ℕ) : Type 0 where
@@ -18,38 +18,38 @@ pub record Meets (v i l s c : ℕ) : Type 0 where
 
 module _ (v i : ℕ) where
   -- one step more at the beginning
-  above-later : (l s c : ℕ) → i < next v s (c % 2) → ((t : ℕ) → 1 ≤ t → t < l → i < walk v t (next v s (c % 2)) (c / 2))
+  above_later : (l s c : ℕ) → i < next v s (c % 2) → ((t : ℕ) → 1 ≤ t → t < l → i < walk v t (next v s (c % 2)) (c / 2))
       → (t : ℕ) → 1 ≤ t → t < suc l → i < walk v t s c
   unfolding walk
-  above-later l s c first later zero g h = absurd (omega arith)
-  above-later l s c first later (suc zero) g h = first
-  above-later l s c first later (suc (suc t)) g h = later (suc t) (omega arith) (omega arith)
+  above_later l s c first later zero g h = absurd (omega arith)
+  above_later l s c first later (suc zero) g h = first
+  above_later l s c first later (suc (suc t)) g h = later (suc t) (omega arith) (omega arith)
 
-  pub of-firstMeets : (l s c : ℕ) → T (first_meets v i l s c) → Meets v i l s c
+  pub of_first_meets : (l s c : ℕ) → T (first_meets v i l s c) → Meets v i l s c
   unfolding walk first_meets
-  of-firstMeets zero s c t = absurd t
-  of-firstMeets (suc zero) s c t =
+  of_first_meets zero s c t = absurd t
+  of_first_meets (suc zero) s c t =
       record { some_step = omega arith; arrives = eqb→eq (next v s (c % 2)) i t; above = λ t g h. absurd (omega arith) }
-  of-firstMeets (suc (suc l)) s c t =
+  of_first_meets (suc (suc l)) s c t =
       let s' : ℕ = next v s (c % 2) in
       let h = (T_and (ltb i s') (first_meets v i (suc l) s' (c / 2))).0 t in
-      let rest = of-firstMeets (suc l) s' (c / 2) h.1 in
-      record { some_step = omega arith; arrives = rest.arrives; above = above-later (suc l) s c (ltb→lt i s' h.0) rest.above }
+      let rest = of_first_meets (suc l) s' (c / 2) h.1 in
+      record { some_step = omega arith; arrives = rest.arrives; above = above_later (suc l) s c (ltb→lt i s' h.0) rest.above }
 
-  pub in-firstMeets : (l s c : ℕ) → Meets v i l s c → T (first_meets v i l s c)
+  pub in_first_meets : (l s c : ℕ) → Meets v i l s c → T (first_meets v i l s c)
   unfolding walk first_meets
-  in-firstMeets zero s c m = absurd (omega (arith, m.some_step))
-  in-firstMeets (suc zero) s c m = subst (λ (x : ℕ). T (eqb (next v s (c % 2)) x)) m.arrives (eqb_refl (next v s (c % 2)))
-  in-firstMeets (suc (suc l)) s c m =
+  in_first_meets zero s c m = absurd (omega (arith, m.some_step))
+  in_first_meets (suc zero) s c m = subst (λ (x : ℕ). T (eqb (next v s (c % 2)) x)) m.arrives (eqb_refl (next v s (c % 2)))
+  in_first_meets (suc (suc l)) s c m =
       let s' : ℕ = next v s (c % 2) in
       let first : i < s' = m.above 1 (omega arith) (omega arith) in
       let rest : Meets v i (suc l) s' (c / 2) =
       record { some_step = omega arith; arrives = m.arrives; above = λ t g h. m.above (suc t) (omega arith) (omega arith) } in
-      (T_and (ltb i s') (first_meets v i (suc l) s' (c / 2))).1 (lt→ltb i s' first, in-firstMeets (suc l) s' (c / 2) rest)
+      (T_and (ltb i s') (first_meets v i (suc l) s' (c / 2))).1 (lt→ltb i s' first, in_first_meets (suc l) s' (c / 2) rest)
 
-  pub meets-cong : (l s c c' : ℕ) → ((j : ℕ) → j < l → bit j c ≡ bit j c') → Meets v i l s c → Meets v i l s c'
-  meets-cong l s c c' same m =
-      let early : (t : ℕ) → t ≤ l → walk v t s c ≡ walk v t s c' = λ t h. walk-cong v t s c c' (λ j g. same j (omega arith)) in
+  pub meets_cong : (l s c c' : ℕ) → ((j : ℕ) → j < l → bit j c ≡ bit j c') → Meets v i l s c → Meets v i l s c'
+  meets_cong l s c c' same m =
+      let early : (t : ℕ) → t ≤ l → walk v t s c ≡ walk v t s c' = λ t h. walk_cong v t s c c' (λ j g. same j (omega arith)) in
       record {
         some_step = m.some_step;
         arrives = sym (early l (omega arith)) ∙ m.arrives;
@@ -57,8 +57,8 @@ module _ (v i : ℕ) where
       }
 
   -- the first return comes once
-  pub meets-unique : (l l' s c : ℕ) → Meets v i l s c → Meets v i l' s c → l ≡ l'
-  meets-unique l l' s c m m' =
+  pub meets_unique : (l l' s c : ℕ) → Meets v i l s c → Meets v i l' s c → l ≡ l'
+  meets_unique l l' s c m m' =
       let some = m.some_step in
       let some' = m'.some_step in
       let end = m.arrives in

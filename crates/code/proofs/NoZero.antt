@@ -1,6 +1,6 @@
 -- No nonzero word weighs 0. Of an order that question 16 passes none does, whatever the kind of link (`no_zero_word`); of a terminated link none does
 -- already where one generator is not 0 (`no_zero_word-terminated`). For every memory, word length and list of generators.
--- A word of weight 0 has nothing but zeros as outputs. On a tail_biting link these are its products with the generators modulo x^N + 1: what so vanishes
+-- A word of weight 0 has nothing but zeros as outputs. On a tail-biting link these are its products with the generators modulo x^N + 1: what so vanishes
 -- is closed under sums and under x times, so that with the generators their greatest common divisor vanishes, which is 1; and the word times 1 is the
 -- word. On a terminated link they are ordinary products, and none of two polynomials other than 0 is 0.
 -- Assumes nothing.
@@ -54,11 +54,11 @@ no_zero_word-terminated o is g m nonzero u some =
     (λ light.
     let product = no_zero_product u g some nonzero in
     let zeros = zero_outputs o o.generators u (omega arith) g m in
-    absurd (let e = sym is-product ∙ zeros in omega arith))
+    absurd (let e = sym is_product ∙ zeros in omega arith))
     (λ h. h) (lt_or_ge (weight_of o o.generators u) 1)
   where
-    is-product : output o g u ≡ u ⊗ g
-    is-product = ap (λ (b : Bool). cond b (u ⊗ g) (remainder o.N (2 ^ o.N + 1) (u ⊗ g))) is
+    is_product : output o g u ≡ u ⊗ g
+    is_product = ap (λ (b : Bool). cond b (u ⊗ g) (remainder o.N (2 ^ o.N + 1) (u ⊗ g))) is
 
 -- of an accepted order
 pub accepted_weighs : (o : Order) → AcceptedCode o → (u : ℕ) → 1 ≤ u → u < 2 ^ o.N → 1 ≤ weight o u

@@ -1,4 +1,4 @@
--- Small words by computation: what a word weighs round the seam of a tail_biting link and past the end on a terminated one, what the latter sends, and
+-- Small words by computation: what a word weighs round the seam of a tail-biting link and past the end on a terminated one, what the latter sends, and
 -- the state that a word begins with. A slip in the definitions shows here.
 -- Assumes nothing.
 use mathlib.Core.Path.{◌≡◌, refl}

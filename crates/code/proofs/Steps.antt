@@ -22,7 +22,7 @@ use Rattle.poly.proofs.Remainder.{remainder_zero, remainder_⊕, remainder_doubl
 use Rattle.code.specs.Model.Cyclic.{cyclic_output, cyclic_weight}
 use Rattle.code.specs.Trellis.{place, state_at, tapped, step_output, step_weight, walk_weight}
 use Rattle.code.proofs.States.{place_period, place-bit, window, window_lt, window_first, window_later, state_at_push}
-use Rattle.code.proofs.Walks.{word_follows, walkWeight-follows}
+use Rattle.code.proofs.Walks.{word_follows, walk_weight_follows}
 
 -- ---- x·r modulo x^N + 1: the coefficients move up by one, and the highest comes back as the lowest
 
@@ -217,6 +217,6 @@ weight_is_sum_of_steps (g ∷ gs) v N u h0 hv hu fit =
 -- the word's walk from its first state weighs what the word weighs
 pub walk_weight-word : (gs : List ℕ) (v N u : ℕ) → 0 < N → v ≤ N → u < 2 ^ N → Fit v gs → walk_weight gs v N (state_at v N u 0) u ≡ cyclic_weight N gs u
 walk_weight-word gs v N u h0 hv hu fit =
-    walkWeight-follows v N u 0 u gs N (word_follows v N u N (le_refl N))
+    walk_weight_follows v N u 0 u gs N (word_follows v N u N (le_refl N))
     ∙ sum_cong N (λ j. weighs gs v N u (0 + j)) (weighs gs v N u) (λ j _. ap (weighs gs v N u) (zero-add j))
     ∙ sym (weight_is_sum_of_steps gs v N u h0 hv hu fit)

@@ -44,23 +44,23 @@ module _ (v N u r c : ℕ) where
   abbrev pub Follows : ℕ → Type 0
   Follows t = (j : ℕ) → j < t → bit j c ≡ place N u (r + j)
 
-  pub walk-follows : (t : ℕ) → Follows t → walk v t (state_at v N u r) c ≡ state_at v N u (r + t)
+  pub walk_follows : (t : ℕ) → Follows t → walk v t (state_at v N u r) c ≡ state_at v N u (r + t)
   unfolding walk
-  walk-follows zero h = ap (state_at v N u) (sym (add-zero r))
-  walk-follows (suc t) h =
+  walk_follows zero h = ap (state_at v N u) (sym (add-zero r))
+  walk_follows (suc t) h =
       walk_last v t (state_at v N u r) c
-      ∙ ap₂ (next v) (walk-follows t (λ j l. h j (le_step l))) (h t (le_refl (suc t)))
+      ∙ ap₂ (next v) (walk_follows t (λ j l. h j (le_step l))) (h t (le_refl (suc t)))
       ∙ sym (state_at-next v N u (r + t))
       ∙ ap (state_at v N u) (sym (add-suc r t))
 
-  pub walkWeight-follows : (gs : List ℕ) (t : ℕ) → Follows t
+  pub walk_weight_follows : (gs : List ℕ) (t : ℕ) → Follows t
       → walk_weight gs v t (state_at v N u r) c ≡ sum t (λ j. step_weight gs (state_at v N u (r + j)) (place N u (r + j)))
   unfolding walk_weight sum
-  walkWeight-follows gs zero h = refl
-  walkWeight-follows gs (suc t) h =
+  walk_weight_follows gs zero h = refl
+  walk_weight_follows gs (suc t) h =
       walk_weight_last gs v t (state_at v N u r) c
-      ∙ ap₂ (λ (x y : ℕ). x + y) (walkWeight-follows gs t (λ j l. h j (le_step l)))
-      (ap₂ (step_weight gs) (walk-follows t (λ j l. h j (le_step l))) (h t (le_refl (suc t))))
+      ∙ ap₂ (λ (x y : ℕ). x + y) (walk_weight_follows gs t (λ j l. h j (le_step l)))
+      (ap₂ (step_weight gs) (walk_follows t (λ j l. h j (le_step l))) (h t (le_refl (suc t))))
       ∙ sym (sum_last t (λ j. step_weight gs (state_at v N u (r + j)) (place N u (r + j))))
 
 -- a word's own bits
@@ -69,7 +69,7 @@ word_follows v N u t h j l = sym (ap (place N u) (zero-add j) ∙ place-bit N u 
 
 -- the walk over a word from its first state goes through its states
 pub walk-word : (v N u t : ℕ) → t ≤ N → walk v t (state_at v N u 0) u ≡ state_at v N u t
-walk-word v N u t h = walk-follows v N u 0 u t (word_follows v N u t h) ∙ ap (state_at v N u) (zero-add t)
+walk-word v N u t h = walk_follows v N u 0 u t (word_follows v N u t h) ∙ ap (state_at v N u) (zero-add t)
 
 -- ---- after v steps nothing is left of the first state
 

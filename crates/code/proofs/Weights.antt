@@ -23,7 +23,7 @@ use Rattle.code.specs.Model.Window.{First}
 use Rattle.code.specs.declared.window.Window.{Window}
 use Rattle.code.proofs.States.{place-bit}
 use Rattle.code.proofs.Steps.{weighs, weight_is_sum_of_steps}
-use Rattle.code.proofs.Links.{memory-fits, some-steps, wide_word, weight-is-cyclic}
+use Rattle.code.proofs.Links.{memory_fits, some_steps, wide_word, weight_is_cyclic}
 use Rattle.code.proofs.Calls.{fit_of_code}
 
 -- ---- the weight of a step
@@ -64,14 +64,14 @@ step_few (g ∷ gs) s b = let one = tapped_lt (2 * s + b) g in let rest = step_f
 -- ---- a step at a time
 
 module _ (gs : List ℕ) (v N u : ℕ) where
-  pub steps-none : 0 ≡ sum 0 (weighs gs v N u)
+  pub steps_none : 0 ≡ sum 0 (weighs gs v N u)
   unfolding sum
-  steps-none = refl
+  steps_none = refl
 
   -- one step more: x is what its inputs y weigh
-  pub steps-more : (t total x y : ℕ) → t < N → y ≡ 2 * state_at v N u t + bit t u → x ≡ step_weight gs (y / 2) (y % 2) → total ≡ sum t (weighs gs v N u)
+  pub steps_more : (t total x y : ℕ) → t < N → y ≡ 2 * state_at v N u t + bit t u → x ≡ step_weight gs (y / 2) (y % 2) → total ≡ sum t (weighs gs v N u)
       → total + x ≡ sum (t + 1) (weighs gs v N u)
-  steps-more t total x y h ey ex et =
+  steps_more t total x y h ey ex et =
       let s : ℕ = state_at v N u t in
       let d : bit t u < 2 = bit_lt t u in
       let here : x ≡ weighs gs v N u t =
@@ -84,5 +84,5 @@ pub steps_end : {o : Order} {u : ℕ} {w : Window} → CodeWord o u → First o 
 steps_end {o} {u} word first gs steps t total eg es et e =
     let fit = fit_of_code o word.code in
     rw (et, es, eg, first.memory, first.rest) at e
-    ∙ sym (weight_is_sum_of_steps o.generators o.v (steps_of o) u (some-steps o word.code) (memory-fits o word.code) (wide_word o u word.fits) fit)
-    ∙ sym (weight-is-cyclic o u word.fits fit)
+    ∙ sym (weight_is_sum_of_steps o.generators o.v (steps_of o) u (some_steps o word.code) (memory_fits o word.code) (wide_word o u word.fits) fit)
+    ∙ sym (weight_is_cyclic o u word.fits fit)

@@ -33,17 +33,17 @@ last_state_lem v N u h =
     ∙ walk_closes v N u h
 
 module _ (o : Order) (u : ℕ) where
-  pub begins-terminated : terminated o ≡ true → first_state o u ≡ 0
+  pub begins_terminated : terminated o ≡ true → first_state o u ≡ 0
   unfolding first_state
-  begins-terminated e = ap (λ (b : Bool). cond b 0 (last_state o.v o.N u)) e
+  begins_terminated e = ap (λ (b : Bool). cond b 0 (last_state o.v o.N u)) e
 
-  pub begins-tail-biting : terminated o ≡ false → first_state o u ≡ last_state o.v o.N u
+  pub begins_tail_biting : terminated o ≡ false → first_state o u ≡ last_state o.v o.N u
   unfolding first_state
-  begins-tail-biting e = ap (λ (b : Bool). cond b 0 (last_state o.v o.N u)) e
+  begins_tail_biting e = ap (λ (b : Bool). cond b 0 (last_state o.v o.N u)) e
 
-  first-state : o.v ≤ o.N → u < 2 ^ o.N → first_state o u ≡ state_at o.v (steps_of o) u 0
+  first_state_lem : o.v ≤ o.N → u < 2 ^ o.N → first_state o u ≡ state_at o.v (steps_of o) u 0
   unfolding first_state steps_of
-  first-state longer fits = by (terminated o)
+  first_state_lem longer fits = by (terminated o)
     where
       by : (b : Bool) → cond b 0 (last_state o.v o.N u) ≡ state_at o.v (cond b (o.N + o.v) o.N) u 0
       by true = sym (begins_at_zero o.v o.N u fits)
@@ -52,7 +52,7 @@ module _ (o : Order) (u : ℕ) where
 -- ---- the kept window is the state: of every memory v and length N, on both kinds of link, for every word and before every step
 
 pub kept_window : (o : Order) (u t : ℕ) → o.v ≤ o.N → u < 2 ^ o.N → t ≤ steps_of o → walk o.v t (first_state o u) u ≡ state_at o.v (steps_of o) u t
-kept_window o u t longer fits h = ap (λ (s : ℕ). walk o.v t s u) (first-state o u longer fits) ∙ walk-word o.v (steps_of o) u t h
+kept_window o u t longer fits h = ap (λ (s : ℕ). walk o.v t s u) (first_state_lem o u longer fits) ∙ walk-word o.v (steps_of o) u t h
 
 -- ---- windows of the code
 
@@ -81,9 +81,9 @@ module _ {o : Order} {u : ℕ} (word : CodeWord o u) {w₀ : Window} (first : Fi
   kept_memory = rw (at.memory, first.memory) word.code.small_memory
 
   -- what a step taps: the state of the definition and the word's bit
-  pub kept-inputs : t < steps_of o → 2 * w.state + number w.rest % 2 ≡ 2 * state_at o.v (steps_of o) u t + bit t u
+  pub kept_inputs : t < steps_of o → 2 * w.state + number w.rest % 2 ≡ 2 * state_at o.v (steps_of o) u t + bit t u
   unfolding bit
-  kept-inputs h =
+  kept_inputs h =
       let kept : w.state ≡ state_at o.v (steps_of o) u t =
       at.state ∙ rw (first.memory, first.state, first.rest) (kept_window o u t word.code.long_enough word.fits (omega arith)) in
       ap₂ (λ (x y : ℕ). 2 * x + y % 2) kept (at.rest ∙ ap (λ (x : ℕ). x / 2 ^ t) first.rest)

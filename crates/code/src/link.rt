@@ -1,4 +1,4 @@
-// The two kinds of link, as specs/Links.antt tells them apart: 1 is tail_biting, 2 terminated.
+// The two kinds of link, as specs/Links.antt tells them apart: 1 is tail-biting, 2 terminated.
 ghost use Rattle.std.specs.Prelude.{◌≡◌};
 ghost use Rattle.order.specs.Answers.{order_in};
 ghost use Rattle.order.specs.Model.Accepted.{AcceptedCode};

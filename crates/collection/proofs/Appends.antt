@@ -11,8 +11,8 @@ use lib.Dec.{T, ltb, eqb, lt→ltb, ltb→lt, nltb→le, eqb→eq}
 use lib.ListN.{length, set, replicate, length-set, length-replicate}
 use lib.Seq.{sets}
 use Rattle.lists.specs.Lists.{padded}
-use Rattle.lists.proofs.Stores.{sets-cleared}
-use Rattle.lists.proofs.Choices.{cond-true, cond-false}
+use Rattle.lists.proofs.Stores.{sets_cleared}
+use Rattle.lists.proofs.Choices.{cond_true, cond_false}
 use Rattle.lists.proofs.Tests.{T_and, passes_or_fails}
 use Rattle.events.specs.declared.Event.{Event}
 use Rattle.collection.specs.declared.Node.{Node}
@@ -23,11 +23,11 @@ use Rattle.collection.proofs.Nodes.{ltb_fails, last_before}
 
 pub append_open : (l : List Event) (at : ℕ) (e : Event) → at ≤ length l → append (l, at) e ≡ (set l at e, at + 1)
 unfolding append
-append_open l at e h = cond-false (ltb (length l) at) (l, at) (set l at e, at + 1) (ltb_fails (length l) at h)
+append_open l at e h = cond_false (ltb (length l) at) (l, at) (set l at e, at + 1) (ltb_fails (length l) at h)
 
 pub append_full : (l : List Event) (at : ℕ) (e : Event) → length l < at → append (l, at) e ≡ (l, at)
 unfolding append
-append_full l at e h = cond-true (ltb (length l) at) (l, at) (set l at e, at + 1) (lt→ltb (length l) at h)
+append_full l at e h = cond_true (ltb (length l) at) (l, at) (set l at e, at + 1) (lt→ltb (length l) at h)
 
 pub appends_none : (s : List Event × ℕ) → s ≡ appends [] s
 unfolding appends
@@ -112,16 +112,16 @@ not_both false b t u = tt
 
 found-cut : (t : ℕ) (work : List ℕ) (e : Node) → T (not (goes_on work e)) → found_in t work e ≡ []
 unfolding found_in
-found-cut zero work e g = cond-false (goes_on work e) (finished work e ∷ []) [] g
-found-cut (suc t) work e g = cond-false (goes_on work e) (found_in t work (earlier work e 0) ++ found_in t work (earlier work e 1)) [] g
+found-cut zero work e g = cond_false (goes_on work e) (finished work e ∷ []) [] g
+found-cut (suc t) work e g = cond_false (goes_on work e) (found_in t work (earlier work e 0) ++ found_in t work (earlier work e 1)) [] g
 
 found_end : (work : List ℕ) (e : Node) → T (goes_on work e) → found_in 0 work e ≡ finished work e ∷ []
 unfolding found_in
-found_end work e g = cond-true (goes_on work e) (finished work e ∷ []) [] g
+found_end work e g = cond_true (goes_on work e) (finished work e ∷ []) [] g
 
 found_more : (t : ℕ) (work : List ℕ) (e : Node) → T (goes_on work e) → found_in (suc t) work e ≡ found_in t work (earlier work e 0) ++ found_in t work (earlier work e 1)
 unfolding found_in
-found_more t work e g = cond-true (goes_on work e) (found_in t work (earlier work e 0) ++ found_in t work (earlier work e 1)) [] g
+found_more t work e g = cond_true (goes_on work e) (found_in t work (earlier work e 0) ++ found_in t work (earlier work e 1)) [] g
 
 nonzero : (x : ℕ) → T (not (eqb x 0)) → 0 < x
 nonzero zero t = absurd t
@@ -129,57 +129,57 @@ nonzero (suc x) t = omega arith
 
 module _ (work : List ℕ) (l : List Event) (at n : ℕ) (e : Node) (same : length l ≡ n) where
   -- cut, or the table is too small already
-  pub node-cut : decided work at n e ≡ cut → (l, at) ≡ appends (found work e) (l, at)
+  pub node_cut : decided work at n e ≡ cut → (l, at) ≡ appends (found work e) (l, at)
   unfolding decided
-  node-cut z =
+  node_cut z =
       ⊎_elim (λ t. let past = ltb→lt n at t in appends_full (found work e) l at (omega arith))
       (λ g. appends_none (l, at) ∙ ap (λ (es : List Event). appends es (l, at)) (sym (found-cut e.left work e g)))
       (cut_cases (ltb n at) (goes_on work e) (eqb e.left 0) z)
 
-  pub node-ends : (decided work at n e ≡ event → ⊥) → (decided work at n e ≡ on → ⊥) → (l, at) ≡ appends (found work e) (l, at)
+  pub node_ends : (decided work at n e ≡ event → ⊥) → (decided work at n e ≡ on → ⊥) → (l, at) ≡ appends (found work e) (l, at)
   unfolding decided
-  node-ends o m = node-cut (nothing_else (ltb n at) (goes_on work e) (eqb e.left 0) o m)
+  node_ends o m = node_cut (nothing_else (ltb n at) (goes_on work e) (eqb e.left 0) o m)
 
-  pub node-open : (decided work at n e ≡ cut → ⊥) → at ≤ n
+  pub node_open : (decided work at n e ≡ cut → ⊥) → at ≤ n
   unfolding decided
-  node-open z = nltb→le n at (open_node (ltb n at) (goes_on work e) (eqb e.left 0) z).0
+  node_open z = nltb→le n at (open_node (ltb n at) (goes_on work e) (eqb e.left 0) z).0
 
   pub node_end : (decided work at n e ≡ cut → ⊥) → decided work at n e ≡ event → (set l at (finished work e), at + 1) ≡ appends (found work e) (l, at)
   unfolding decided
   node_end z o =
-      let inside = node-open z in
+      let inside = node_open z in
       let goes = (open_node (ltb n at) (goes_on work e) (eqb e.left 0) z).1 in
       let none = eqb→eq e.left 0 (at_end (ltb n at) (goes_on work e) (eqb e.left 0) o) in
       appends_one l at (finished work e) (omega arith) ∙ ap (λ (es : List Event). appends es (l, at)) (sym (ap (λ (t : ℕ). found_in t work e) none ∙ found_end work e goes))
 
   module _ (z : decided work at n e ≡ cut → ⊥) (o : decided work at n e ≡ event → ⊥) where
-    pub node-longer : 0 < e.left
+    pub node_longer : 0 < e.left
     unfolding decided
-    node-longer = nonzero e.left (not_end (ltb n at) (goes_on work e) (eqb e.left 0) z o)
+    node_longer = nonzero e.left (not_end (ltb n at) (goes_on work e) (eqb e.left 0) z o)
 
-    pub node-more : appends (found work (earlier work e 1)) (appends (found work (earlier work e 0)) (l, at)) ≡ appends (found work e) (l, at)
+    pub node_more : appends (found work (earlier work e 1)) (appends (found work (earlier work e 0)) (l, at)) ≡ appends (found work e) (l, at)
     unfolding decided earlier
-    node-more =
+    node_more =
         let goes = (open_node (ltb n at) (goes_on work e) (eqb e.left 0) z).1 in
-        let pos = node-longer in
+        let pos = node_longer in
         let more : e.left ≡ suc (e.left - 1) = omega arith in
         appends-append (found_in (e.left - 1) work (earlier work e 0)) (found_in (e.left - 1) work (earlier work e 1)) (l, at)
         ∙ ap (λ (es : List Event). appends es (l, at)) (sym (ap (λ (t : ℕ). found_in t work e) more ∙ found_more (e.left - 1) work e goes))
 
     -- both nodes before go on, or at most one does
-    pub node-both : T (goes_on work (earlier work e 0) && goes_on work (earlier work e 1)) → appends (found work (last_before work e)) (appends (found work (earlier work e 0)) (l, at)) ≡ appends (found work e) (l, at)
-    node-both t =
+    pub node_both : T (goes_on work (earlier work e 0) && goes_on work (earlier work e 1)) → appends (found work (last_before work e)) (appends (found work (earlier work e 0)) (l, at)) ≡ appends (found work e) (l, at)
+    node_both t =
         let on : T (goes_on work (earlier work e 1)) = ((T_and (goes_on work (earlier work e 0)) (goes_on work (earlier work e 1))).0 t).1 in
-        ap (λ (x : Node). appends (found work x) (appends (found work (earlier work e 0)) (l, at))) (cond-true (goes_on work (earlier work e 1)) (earlier work e 1) (earlier work e 0) on) ∙ node-more
+        ap (λ (x : Node). appends (found work x) (appends (found work (earlier work e 0)) (l, at))) (cond_true (goes_on work (earlier work e 1)) (earlier work e 1) (earlier work e 0) on) ∙ node_more
 
-    pub node-one : T (not (goes_on work (earlier work e 0) && goes_on work (earlier work e 1))) → appends (found work (last_before work e)) (l, at) ≡ appends (found work e) (l, at)
-    node-one t = elim (passes_or_fails (goes_on work (earlier work e 1))) [
+    pub node_one : T (not (goes_on work (earlier work e 0) && goes_on work (earlier work e 1))) → appends (found work (last_before work e)) (l, at) ≡ appends (found work e) (l, at)
+    node_one t = elim (passes_or_fails (goes_on work (earlier work e 1))) [
       | inl on ↦
-          ap (λ (x : Node). appends (found work x) (l, at)) (cond-true (goes_on work (earlier work e 1)) (earlier work e 1) (earlier work e 0) on)
-          ∙ ap (appends (found work (earlier work e 1))) (none_of (earlier work e 0) (l, at) (not_both (goes_on work (earlier work e 0)) (goes_on work (earlier work e 1)) t on)) ∙ node-more
+          ap (λ (x : Node). appends (found work x) (l, at)) (cond_true (goes_on work (earlier work e 1)) (earlier work e 1) (earlier work e 0) on)
+          ∙ ap (appends (found work (earlier work e 1))) (none_of (earlier work e 0) (l, at) (not_both (goes_on work (earlier work e 0)) (goes_on work (earlier work e 1)) t on)) ∙ node_more
       | inr cut ↦
-          ap (λ (x : Node). appends (found work x) (l, at)) (cond-false (goes_on work (earlier work e 1)) (earlier work e 1) (earlier work e 0) cut)
-          ∙ none_of (earlier work e 1) (appends (found work (earlier work e 0)) (l, at)) cut ∙ node-more
+          ap (λ (x : Node). appends (found work x) (l, at)) (cond_false (goes_on work (earlier work e 1)) (earlier work e 1) (earlier work e 0) cut)
+          ∙ none_of (earlier work e 1) (appends (found work (earlier work e 0)) (l, at)) cut ∙ node_more
     ]
       where
         none_of : (x : Node) (s : List Event × ℕ) → T (not (goes_on work x)) → s ≡ appends (found work x) s
@@ -221,7 +221,7 @@ pub all_fit : (z : Event) (n : ℕ) (es : List Event) → length es ≤ n → ap
 all_fit z n es h =
     let size = length-replicate n z in
     let count : 0 + length es ≡ length es = omega arith in
-    appends_fit es (replicate n z) 0 (omega arith) ∙ (λ i. (sets-cleared n z es h i, count i))
+    appends_fit es (replicate n z) 0 (omega arith) ∙ (λ i. (sets_cleared n z es h i, count i))
 
 pub all_past : (z : Event) (n : ℕ) (es : List Event) → n < length es → n < (appends es (replicate n z, 0)).1
 all_past z n es h =

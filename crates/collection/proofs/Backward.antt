@@ -1,5 +1,5 @@
 -- What the recursion meets over a work area that is ready and filled: the definition's events of the state and length at hand, as records of the
--- event table (`found_is`). The inputs of a node are those of a walk to the state, so they fit two halves of 64 bits on every link (`inputs-fit`).
+-- event table (`found_is`). The inputs of a node are those of a walk to the state, so they fit two halves of 64 bits on every link (`inputs_fit`).
 -- Assumes nothing.
 use Prim.Native.Nat.{ℕ, zero, suc, ◌+◌, ◌-◌, ◌*◌, ◌/◌, ◌%◌, ◌^◌, ◌≤◌, ◌<◌}
 use native.Mathlib.Nat.{div-add-mod', pow-succ'}
@@ -12,11 +12,11 @@ use lib.Dec.{T, ltb, eqb}
 use lib.Pow.{pow_pos, shl-shr, shr_lt}
 use Rattle.poly.proofs.Sum.{half_push, mod2_push}
 use Rattle.poly.proofs.Shifts.{push_low_fits, push_carry}
-use Rattle.lists.proofs.Choices.{cond-cong-on}
+use Rattle.lists.proofs.Choices.{cond_cong_on}
 use Rattle.code.specs.Links.{steps_of, event_states}
 use Rattle.code.specs.Trellis.{next, step_weight, walk}
-use Rattle.code.proofs.Links.{states-le}
-use Rattle.code.proofs.Ends.{inputs-fit}
+use Rattle.code.proofs.Links.{states_le}
+use Rattle.code.proofs.Ends.{inputs_fit}
 use Rattle.order.specs.Order.{Order}
 use Rattle.order.specs.Model.Accepted.{AcceptedCode}
 use Rattle.events.specs.declared.Event.{Event}
@@ -24,10 +24,10 @@ use Rattle.events.specs.Events.{entry, events_of_length}
 use Rattle.collection.specs.declared.Node.{Node}
 use Rattle.needed.specs.Model.Tables.{need, step_at, length_at, half_at}
 use Rattle.collection.specs.Model.Backward.{goes_on, earlier, finished, found_in, found, first}
-use Rattle.collection.proofs.Halving.{twice_half, before-fits}
-use Rattle.collection.proofs.Back.{low-leads, high-leads, back, back_is}
+use Rattle.collection.proofs.Halving.{twice_half, before_fits}
+use Rattle.collection.proofs.Back.{low_leads, high_leads, back, back_is}
 use Rattle.needed.proofs.Rows.{Filled}
-use Rattle.collection.proofs.Ready.{Ready, step_is, go, ready-cuts, states-few}
+use Rattle.collection.proofs.Ready.{Ready, step_is, go, ready_cuts, states_few}
 
 -- ---- the halves of an input
 
@@ -91,17 +91,17 @@ module _ (gs : List ℕ) (v d : ℕ) (work : List ℕ) (ready : Ready gs v d wor
   test = go gs v d work ready i words rows l filled pos most covers hi short
 
   few : 2 ^ v ≤ 256
-  few = states-few gs v d work ready i words rows l filled pos most covers hi short
+  few = states_few gs v d work ready i words rows l filled pos most covers hi short
 
   goes_same : (t s c w : ℕ) → goes_on work (node t s c w) ≡ test t s w
   unfolding goes_on
   goes_same t s c w = ap₂ (λ (x y : ℕ). eqb t x || ltb (w + need work t s) y) length_is ready.threshold_is
 
   -- the node before, by its highest bit
-  earlier-is : (t s c w top p : ℕ) → p ≡ s / 2 + top * half_at work → p < 256 → c / 2 ^ 64 < 2 ^ 63
+  earlier_is : (t s c w top p : ℕ) → p ≡ s / 2 + top * half_at work → p < 256 → c / 2 ^ 64 < 2 ^ 63
       → earlier work (node (suc t) s c w) top ≡ node t p (2 * c + s % 2) (w + step_weight gs p (s % 2))
   unfolding earlier
-  earlier-is t s c w top p e hp hc =
+  earlier_is t s c w top p e hp hc =
       let b : ℕ = s % 2 in
       let hb : b < 2 = omega arith in
       let state_is : s / 2 + top * half_at work ≡ p = sym e in
@@ -115,25 +115,25 @@ module _ (gs : List ℕ) (v d : ℕ) (work : List ℕ) (ready : Ready gs v d wor
   found_back : (t s c w : ℕ) → t ≤ l → s < 2 ^ v → Behind v i l t s c → found_in t work (node t s c w) ≡ map entry (back gs v i l test t s c w)
   unfolding found_in back finished entry
   found_back zero s c w ht hs hc =
-      cond-cong-on (goes_on work (node 0 s c w)) (finished work (node 0 s c w) ∷ []) (entry (record { state = i; length = l; weight = w; input = c }) ∷ []) [] []
+      cond_cong_on (goes_on work (node 0 s c w)) (finished work (node 0 s c w) ∷ []) (entry (record { state = i; length = l; weight = w; input = c }) ∷ []) [] []
       (λ g.
-      let end = (ready-cuts gs v d work ready i words rows l filled pos most covers hi short hl hd).ends s w hs (subst T (goes_same 0 s c w) g) in
+      let end = (ready_cuts gs v d work ready i words rows l filled pos most covers hi short hl hd).ends s w hs (subst T (goes_same 0 s c w) g) in
       λ k. record { state = end.0 k; length = length_is k; weight = w; low = c % 2 ^ 64; high = c / 2 ^ 64 } ∷ []) (λ _. refl)
       ∙ ap (λ (b : Bool). cond b (entry (record { state = i; length = l; weight = w; input = c }) ∷ []) []) (goes_same 0 s c w)
       ∙ sym (map_cond entry (test 0 s w) (record { state = i; length = l; weight = w; input = c } ∷ []) [])
   found_back (suc t) s c w ht hs hc =
-      let fit = before-fits (2 ^ v) (2 ^ (v - 1)) (twice_half v pos) s hs in
+      let fit = before_fits (2 ^ v) (2 ^ (v - 1)) (twice_half v pos) s hs in
       let small : 2 ^ v ≤ 256 = few in
       let b : ℕ = s % 2 in
       let hb : b < 2 = omega arith in
       let high : c / 2 ^ 64 < 2 ^ 63 = high_fits c (room (l - suc t) s c (omega arith) hc.fits hc.arrives) in
       let half = ready.half_is in
       let first-list : found_in t work (earlier work (node (suc t) s c w) 0) ≡ map entry (back gs v i l test t (s / 2) (2 * c + b) (w + step_weight gs (s / 2) b)) =
-      ap (found_in t work) (earlier-is t s c w 0 (s / 2) (no_top (s / 2) (half_at work)) (omega arith) high)
-      ∙ found_back t (s / 2) (2 * c + b) (w + step_weight gs (s / 2) b) (omega arith) (omega arith) (behind_more v i l t s c (s / 2) ht (low-leads v pos s hs) hc) in
+      ap (found_in t work) (earlier_is t s c w 0 (s / 2) (no_top (s / 2) (half_at work)) (omega arith) high)
+      ∙ found_back t (s / 2) (2 * c + b) (w + step_weight gs (s / 2) b) (omega arith) (omega arith) (behind_more v i l t s c (s / 2) ht (low_leads v pos s hs) hc) in
       let second-list : found_in t work (earlier work (node (suc t) s c w) 1) ≡ map entry (back gs v i l test t (s / 2 + 2 ^ (v - 1)) (2 * c + b) (w + step_weight gs (s / 2 + 2 ^ (v - 1)) b)) =
-      ap (found_in t work) (earlier-is t s c w 1 (s / 2 + 2 ^ (v - 1)) (one-top (s / 2) (half_at work) (2 ^ (v - 1)) half) (omega arith) high)
-      ∙ found_back t (s / 2 + 2 ^ (v - 1)) (2 * c + b) (w + step_weight gs (s / 2 + 2 ^ (v - 1)) b) (omega arith) fit.1 (behind_more v i l t s c (s / 2 + 2 ^ (v - 1)) ht (high-leads v pos s hs) hc) in
+      ap (found_in t work) (earlier_is t s c w 1 (s / 2 + 2 ^ (v - 1)) (one_top (s / 2) (half_at work) (2 ^ (v - 1)) half) (omega arith) high)
+      ∙ found_back t (s / 2 + 2 ^ (v - 1)) (2 * c + b) (w + step_weight gs (s / 2 + 2 ^ (v - 1)) b) (omega arith) fit.1 (behind_more v i l t s c (s / 2 + 2 ^ (v - 1)) ht (high_leads v pos s hs) hc) in
       ap₂ (λ (x : Bool) (y : List Event). cond x y []) (goes_same (suc t) s c w)
       (ap₂ (λ (x y : List Event). x ++ y) first-list second-list
       ∙ sym (map-append entry (back gs v i l test t (s / 2) (2 * c + b) (w + step_weight gs (s / 2) b)) (back gs v i l test t (s / 2 + 2 ^ (v - 1)) (2 * c + b) (w + step_weight gs (s / 2 + 2 ^ (v - 1)) b))))
@@ -142,8 +142,8 @@ module _ (gs : List ℕ) (v d : ℕ) (work : List ℕ) (ready : Ready gs v d wor
       no_top : (x h : ℕ) → x ≡ x + 0 * h
       no_top x h = omega arith
 
-      one-top : (x h m : ℕ) → h ≡ m → x + m ≡ x + 1 * h
-      one-top x h m e = omega arith
+      one_top : (x h m : ℕ) → h ≡ m → x + m ≡ x + 1 * h
+      one_top x h m e = omega arith
 
 -- the events of turn k
 pub found_is : (o : Order) (acc : AcceptedCode o) (work : List ℕ) (words k : ℕ) → Ready o.generators o.v o.d work → Filled (k / steps_of o) words (steps_of o) work
@@ -157,8 +157,8 @@ found_is o acc work words k ready filled covers begins short hd length_is =
     let pos = acc.some_memory in
     let most = acc.small_memory in
     let some : 1 ≤ l = omega arith in
-    let hi : i < 2 ^ o.v = let few = states-le o in omega arith in
+    let hi : i < 2 ^ o.v = let few = states_le o in omega arith in
     found_back o.generators o.v o.d work ready i words steps l filled pos most covers hi short some hd length_is
-    (λ n s c less fits arrives. inputs-fit o acc i s n c begins fits arrives 1 (omega arith)) l i 0 0 (omega arith) hi (behind_none o.v i l)
+    (λ n s c less fits arrives. inputs_fit o acc i s n c begins fits arrives 1 (omega arith)) l i 0 0 (omega arith) hi (behind_none o.v i l)
     ∙ ap (map entry) (back_is o i l (go o.generators o.v o.d work ready i words steps l filled pos most covers hi short)
-    (ready-cuts o.generators o.v o.d work ready i words steps l filled pos most covers hi short some hd) pos hi some)
+    (ready_cuts o.generators o.v o.d work ready i words steps l filled pos most covers hi short some hd) pos hi some)

@@ -57,18 +57,18 @@ module _ (v i : ℕ) where
       ∙ ap (λ (x : ℕ). (2 * walk v t i r + q) % x) (pow-succ' 2 j)
       ∙ shifted_mod (walk v t i r) q (2 ^ j) (pow_pos j) hq
 
-  pub less-before : (t j p a b : ℕ) → suc j ≤ v → p < 2 ^ j → a < 2 ^ t → b < 2 ^ t
+  pub less_before : (t j p a b : ℕ) → suc j ≤ v → p < 2 ^ j → a < 2 ^ t → b < 2 ^ t
       → walk v t i a % 2 ^ suc j ≡ p → walk v t i b % 2 ^ suc j ≡ p + 2 ^ j → a < b
   unfolding walk
-  less-before zero j p a b h hp ha hb ea eb = let pos : 0 < 2 ^ j = pow_pos j in absurd (omega arith)
-  less-before (suc t) j p a b h hp ha hb ea eb =
+  less_before zero j p a b h hp ha hb ea eb = let pos : 0 < 2 ^ j = pow_pos j in absurd (omega arith)
+  less_before (suc t) j p a b h hp ha hb ea eb =
       let qa : ℕ = a / 2 ^ t in
       let qb : ℕ = b / 2 ^ t in
       let ra : ℕ = a % 2 ^ t in
       let rb : ℕ = b % 2 ^ t in
       let hqa : qa < 2 = (div-lt_iff_lt-mul (pow_pos t)).1 (subst (λ (x : ℕ). a < x) (pow-succ' 2 t) ha) in
       let hqb : qb < 2 = (div-lt_iff_lt-mul (pow_pos t)).1 (subst (λ (x : ℕ). b < x) (pow-succ' 2 t) hb) in
-      by_place (λ k g p' hp' ea' eb'. less-before t k p' ra rb g hp' (mod-lt a (pow_pos t)) (mod-lt b (pow_pos t)) ea' eb') j h hp (sym (last_step t j a h ha) ∙ ea) (sym (last_step t j b h hb) ∙ eb) hqa hqb
+      by_place (λ k g p' hp' ea' eb'. less_before t k p' ra rb g hp' (mod-lt a (pow_pos t)) (mod-lt b (pow_pos t)) ea' eb') j h hp (sym (last_step t j a h ha) ∙ ea) (sym (last_step t j b h hb) ∙ eb) hqa hqb
     where
       Before : Type 0
       Before = (k : ℕ) → suc k ≤ v → (p' : ℕ) → p' < 2 ^ k → walk v t i (a % 2 ^ t) % 2 ^ suc k ≡ p' → walk v t i (b % 2 ^ t) % 2 ^ suc k ≡ p' + 2 ^ k → a % 2 ^ t < b % 2 ^ t

@@ -21,28 +21,28 @@ halves_and : (s half : ℕ) → 2 * (s / 2 + half) + s % 2 ≡ s + 2 * half
 halves_and s half = omega arith
 
 module _ (whole half : ℕ) (twice : whole ≡ 2 * half) where
-  pub step-low : (s : ℕ) → s < whole → (2 * (s / 2) + s % 2) % whole ≡ s
-  step-low s h = ap (λ (x : ℕ). x % whole) (halves s) ∙ mod-eq_of_lt h
+  pub step_low : (s : ℕ) → s < whole → (2 * (s / 2) + s % 2) % whole ≡ s
+  step_low s h = ap (λ (x : ℕ). x % whole) (halves s) ∙ mod-eq_of_lt h
 
-  pub step-high : (s : ℕ) → s < whole → (2 * (s / 2 + half) + s % 2) % whole ≡ s
-  step-high s h =
+  pub step_high : (s : ℕ) → s < whole → (2 * (s / 2 + half) + s % 2) % whole ≡ s
+  step_high s h =
       ap (λ (x : ℕ). x % whole) (halves_and s half ∙ ap (λ (x : ℕ). s + x) (sym twice)) ∙ add-mod_right s whole ∙ mod-eq_of_lt h
 
-  pub before-fits : (s : ℕ) → s < whole → (s / 2 < half) × (s / 2 + half < whole)
-  before-fits s h = (omega arith, omega arith)
+  pub before_fits : (s : ℕ) → s < whole → (s / 2 < half) × (s / 2 + half < whole)
+  before_fits s h = (omega arith, omega arith)
 
   -- the state before is one of the two
-  pub before-is : (p b s : ℕ) → p < whole → b < 2 → s ≡ (2 * p + b) % whole
+  pub before_is : (p b s : ℕ) → p < whole → b < 2 → s ≡ (2 * p + b) % whole
       → ((p ≡ s / 2) × (b ≡ s % 2)) ⊎ ((p ≡ s / 2 + half) × (b ≡ s % 2))
-  before-is p b s hp hb e = elim (dec_lt p half) [
-    | yes g ↦ inl (low-case (e ∙ mod-eq_of_lt (omega arith)))
+  before_is p b s hp hb e = elim (dec_lt p half) [
+    | yes g ↦ inl (low_case (e ∙ mod-eq_of_lt (omega arith)))
     | no g ↦
         let moved : 2 * p + b ≡ (2 * (p - half) + b) + whole = omega arith in
-        inr (high-case (omega arith) (e ∙ ap (λ (x : ℕ). x % whole) moved ∙ add-mod_right (2 * (p - half) + b) whole ∙ mod-eq_of_lt (omega arith)))
+        inr (high_case (omega arith) (e ∙ ap (λ (x : ℕ). x % whole) moved ∙ add-mod_right (2 * (p - half) + b) whole ∙ mod-eq_of_lt (omega arith)))
   ]
     where
-      low-case : s ≡ 2 * p + b → (p ≡ s / 2) × (b ≡ s % 2)
-      low-case q = (omega arith, omega arith)
+      low_case : s ≡ 2 * p + b → (p ≡ s / 2) × (b ≡ s % 2)
+      low_case q = (omega arith, omega arith)
 
-      high-case : half ≤ p → s ≡ 2 * (p - half) + b → (p ≡ s / 2 + half) × (b ≡ s % 2)
-      high-case g q = (omega arith, omega arith)
+      high_case : half ≤ p → s ≡ 2 * (p - half) + b → (p ≡ s / 2 + half) × (b ≡ s % 2)
+      high_case g q = (omega arith, omega arith)

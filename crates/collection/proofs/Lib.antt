@@ -7,4 +7,3 @@ pub mod Backward
 pub mod Turns
 pub mod Nodes
 pub mod Appends
-pub mod Plains

@@ -7,7 +7,7 @@ use mathlib.Core.Logic.{◌≢◌}
 use mathlib.Core.Bool.{Bool, true, false, not, cond, ◌&&◌, ◌||◌}
 use mathlib.Core.List.{List}
 use lib.Dec.{T, ltb, eqb, lt→ltb, ltb→lt, not_T}
-use Rattle.lists.proofs.Choices.{cond-true, cond-false, eqb_passes, eqb_fails}
+use Rattle.lists.proofs.Choices.{cond_true, cond_false, eqb_passes, eqb_fails}
 use Rattle.lists.proofs.Tests.{true_of_T, false_of_T_not}
 use Rattle.code.specs.Model.Steps.{most_steps}
 use Rattle.collection.specs.declared.Node.{Node}
@@ -34,22 +34,22 @@ goes_below work e r n is =
 -- ---- what to do at a node
 
 module _ (work : List ℕ) (at room : ℕ) (e : Node) where
-  pub decided-full : room < at → cut ≡ decided work at room e
+  pub decided_full : room < at → cut ≡ decided work at room e
   unfolding decided
-  decided-full h = sym (cond-true (ltb room at) 0 _ (lt→ltb room at h))
+  decided_full h = sym (cond_true (ltb room at) 0 _ (lt→ltb room at h))
 
-  open-room : at ≤ room → decided work at room e ≡ cond (goes_on work e) (cond (eqb e.left 0) event on) cut
+  open_room : at ≤ room → decided work at room e ≡ cond (goes_on work e) (cond (eqb e.left 0) event on) cut
   unfolding decided
-  open-room h = cond-false (ltb room at) 0 _ (ltb_fails room at h)
+  open_room h = cond_false (ltb room at) 0 _ (ltb_fails room at h)
 
   pub decided-cut : at ≤ room → goes_on work e ≡ false → cut ≡ decided work at room e
-  decided-cut h g = sym (open-room h ∙ ap (λ (b : Bool). cond b (cond (eqb e.left 0) event on) cut) g)
+  decided-cut h g = sym (open_room h ∙ ap (λ (b : Bool). cond b (cond (eqb e.left 0) event on) cut) g)
 
-  pub decided-end : at ≤ room → goes_on work e ≡ true → e.left ≡ 0 → event ≡ decided work at room e
-  decided-end h g z = sym (open-room h ∙ ap (λ (b : Bool). cond b (cond (eqb e.left 0) event on) cut) g ∙ cond-true (eqb e.left 0) 1 2 (eqb_passes e.left 0 z))
+  pub decided_end : at ≤ room → goes_on work e ≡ true → e.left ≡ 0 → event ≡ decided work at room e
+  decided_end h g z = sym (open_room h ∙ ap (λ (b : Bool). cond b (cond (eqb e.left 0) event on) cut) g ∙ cond_true (eqb e.left 0) 1 2 (eqb_passes e.left 0 z))
 
-  pub decided-more : at ≤ room → goes_on work e ≡ true → e.left ≢ 0 → on ≡ decided work at room e
-  decided-more h g z = sym (open-room h ∙ ap (λ (b : Bool). cond b (cond (eqb e.left 0) event on) cut) g ∙ cond-false (eqb e.left 0) 1 2 (eqb_fails e.left 0 z))
+  pub decided_more : at ≤ room → goes_on work e ≡ true → e.left ≢ 0 → on ≡ decided work at room e
+  decided_more h g z = sym (open_room h ∙ ap (λ (b : Bool). cond b (cond (eqb e.left 0) event on) cut) g ∙ cond_false (eqb e.left 0) 1 2 (eqb_fails e.left 0 z))
 
 -- ---- one step back
 
@@ -75,17 +75,17 @@ first_node steps k most state rem = record { state_small = state; left_small = o
 
 -- the sums of `step_back`
 module _ (work : List ℕ) (e : Node) (top : ℕ) (ok : Back work e top) where
-  pub top-fits : top * half_at work < 2 ^ 64
-  top-fits = let small = top_small top (half_at work) ok.top_bit ok.tables.half_small in omega arith
+  pub top_fits : top * half_at work < 2 ^ 64
+  top_fits = let small = top_small top (half_at work) ok.top_bit ok.tables.half_small in omega arith
 
   pub state_fits : e.state / 2 + top * half_at work < 2 ^ 64
   state_fits = let small = before_small work e top ok.tables ok.walkable ok.top_bit in omega arith
 
-  pub step-before : Step work (e.state / 2 + top * half_at work) (e.state % 2)
-  step-before = record { tables = ok.tables; state = before_small work e top ok.tables ok.walkable ok.top_bit; input = omega arith }
+  pub step_before : Step work (e.state / 2 + top * half_at work) (e.state % 2)
+  step_before = record { tables = ok.tables; state = before_small work e top ok.tables ok.walkable ok.top_bit; input = omega arith }
 
   pub weight_fits : (r : ℕ) → r ≡ step_at work (e.state / 2 + top * half_at work) (e.state % 2) → e.weight + r < 2 ^ 64
-  weight_fits r is = let step = step_small work step-before in let weight = ok.walkable.weight_small in omega arith
+  weight_fits r is = let step = step_small work step_before in let weight = ok.walkable.weight_small in omega arith
 
 pub sum_fits : (e : Node) (r : ℕ) (work : List ℕ) → Walkable e → r ≡ need work e.left e.state → e.weight + r < 2 ^ 64
 sum_fits e r work n is = let small = need-small work e.left e.state in let weight = n.weight_small in omega arith
@@ -100,32 +100,32 @@ abbrev ways : Bool → Bool → ℕ
 ways a b = cond a (cond b both only_low) (cond b only_high neither)
 
 module _ (work : List ℕ) (x y : Node) where
-  pub ways-are : (a b : Bool) → goes_on work x ≡ a → goes_on work y ≡ b → ways a b ≡ ways_on work x y
+  pub ways_are : (a b : Bool) → goes_on work x ≡ a → goes_on work y ≡ b → ways a b ≡ ways_on work x y
   unfolding ways_on
-  ways-are a b p q = sym (ap₂ ways p q)
+  ways_are a b p q = sym (ap₂ ways p q)
 
-  pub ways-both : ways_on work x y ≡ both → T (goes_on work x && goes_on work y)
+  pub ways_both : ways_on work x y ≡ both → T (goes_on work x && goes_on work y)
   unfolding ways_on
-  ways-both e = of-both (goes_on work x) (goes_on work y) e
+  ways_both e = of_both (goes_on work x) (goes_on work y) e
     where
-      of-both : (a b : Bool) → ways a b ≡ both → T (a && b)
-      of-both true true e = tt
-      of-both true false e = absurd (omega arith)
-      of-both false true e = absurd (omega arith)
-      of-both false false e = absurd (omega arith)
+      of_both : (a b : Bool) → ways a b ≡ both → T (a && b)
+      of_both true true e = tt
+      of_both true false e = absurd (omega arith)
+      of_both false true e = absurd (omega arith)
+      of_both false false e = absurd (omega arith)
 
-  pub ways-one : (ways_on work x y ≡ both → ⊥) → T (not (goes_on work x && goes_on work y))
+  pub ways_one : (ways_on work x y ≡ both → ⊥) → T (not (goes_on work x && goes_on work y))
   unfolding ways_on
-  ways-one n = one (goes_on work x) (goes_on work y) n
+  ways_one n = one (goes_on work x) (goes_on work y) n
     where
       one : (a b : Bool) → (ways a b ≡ both → ⊥) → T (not (a && b))
       one true true n = absurd (n refl)
       one true false n = tt
       one false b n = tt
 
-  pub ways-last : last_of (ways_on work x y) x y ≡ cond (goes_on work y) y x
+  pub ways_last : last_of (ways_on work x y) x y ≡ cond (goes_on work y) y x
   unfolding ways_on
-  ways-last = chosen (goes_on work x) (goes_on work y)
+  ways_last = chosen (goes_on work x) (goes_on work y)
     where
       chosen : (a b : Bool) → last_of (ways a b) x y ≡ cond b y x
       chosen true true = refl
@@ -134,9 +134,9 @@ module _ (work : List ℕ) (x y : Node) where
       chosen false false = refl
 
   -- none goes on where the last does not
-  ways-none : eqb (ways_on work x y) neither ≡ not (goes_on work (cond (goes_on work y) y x))
+  ways_none : eqb (ways_on work x y) neither ≡ not (goes_on work (cond (goes_on work y) y x))
   unfolding ways_on
-  ways-none = none (goes_on work x) (goes_on work y) ∙ ap not (sym (of-chosen (goes_on work y)))
+  ways_none = none (goes_on work x) (goes_on work y) ∙ ap not (sym (of_chosen (goes_on work y)))
     where
       none : (a b : Bool) → eqb (ways a b) neither ≡ not (cond b b a)
       none true true = refl
@@ -144,15 +144,15 @@ module _ (work : List ℕ) (x y : Node) where
       none false true = refl
       none false false = refl
 
-      of-chosen : (b : Bool) → goes_on work (cond b y x) ≡ cond b (goes_on work y) (goes_on work x)
-      of-chosen true = refl
-      of-chosen false = refl
+      of_chosen : (b : Bool) → goes_on work (cond b y x) ≡ cond b (goes_on work y) (goes_on work x)
+      of_chosen true = refl
+      of_chosen false = refl
 
-  pub last-decided : (at room : ℕ) → decided_last (ways_on work x y) at room (cond (goes_on work y) y x).left ≡ decided work at room (cond (goes_on work y) y x)
+  pub last_decided : (at room : ℕ) → decided_last (ways_on work x y) at room (cond (goes_on work y) y x).left ≡ decided work at room (cond (goes_on work y) y x)
   unfolding decided_last decided
-  last-decided at room =
+  last_decided at room =
       let e : Node = cond (goes_on work y) y x in
-      ap (λ (b : Bool). cond b 0 (cond (ltb room at) 0 (cond (eqb e.left 0) 1 2))) ways-none ∙ in_order (goes_on work e) (ltb room at) (eqb e.left 0)
+      ap (λ (b : Bool). cond b 0 (cond (ltb room at) 0 (cond (eqb e.left 0) 1 2))) ways_none ∙ in_order (goes_on work e) (ltb room at) (eqb e.left 0)
     where
       in_order : (g b z : Bool) → ◌≡◌ {A = ℕ} (cond (not g) 0 (cond b 0 (cond z 1 2))) (cond b 0 (cond g (cond z 1 2) 0))
       in_order true b z = refl
@@ -161,30 +161,30 @@ module _ (work : List ℕ) (x y : Node) where
 
 -- the cases of `last_of`
 module _ (ways : ℕ) (x y : Node) where
-  pub last-low : ways < only_high → x ≡ last_of ways x y
-  last-low h = sym (cond-true (ltb ways only_high) x y (lt→ltb ways only_high h))
+  pub last_low : ways < only_high → x ≡ last_of ways x y
+  last_low h = sym (cond_true (ltb ways only_high) x y (lt→ltb ways only_high h))
 
-  pub last-high : only_high ≤ ways → y ≡ last_of ways x y
-  last-high h = sym (cond-false (ltb ways only_high) x y (ltb_fails ways only_high h))
+  pub last_high : only_high ≤ ways → y ≡ last_of ways x y
+  last_high h = sym (cond_false (ltb ways only_high) x y (ltb_fails ways only_high h))
 
 -- the cases of `decide_last`
 module _ (ways at room left : ℕ) where
   pub last_none : ways ≡ neither → cut ≡ decided_last ways at room left
   unfolding decided_last
-  last_none h = sym (cond-true (eqb ways 0) 0 _ (eqb_passes ways 0 h))
+  last_none h = sym (cond_true (eqb ways 0) 0 _ (eqb_passes ways 0 h))
 
-  some-go-on : ways ≢ neither → decided_last ways at room left ≡ cond (ltb room at) 0 (cond (eqb left 0) 1 2)
+  some_go_on : ways ≢ neither → decided_last ways at room left ≡ cond (ltb room at) 0 (cond (eqb left 0) 1 2)
   unfolding decided_last
-  some-go-on h = cond-false (eqb ways 0) 0 _ (eqb_fails ways 0 h)
+  some_go_on h = cond_false (eqb ways 0) 0 _ (eqb_fails ways 0 h)
 
-  pub last-full : ways ≢ neither → room < at → cut ≡ decided_last ways at room left
-  last-full h g = sym (some-go-on h ∙ cond-true (ltb room at) 0 _ (lt→ltb room at g))
+  pub last_full : ways ≢ neither → room < at → cut ≡ decided_last ways at room left
+  last_full h g = sym (some_go_on h ∙ cond_true (ltb room at) 0 _ (lt→ltb room at g))
 
   pub last_end : ways ≢ neither → at ≤ room → left ≡ 0 → event ≡ decided_last ways at room left
-  last_end h g z = sym (some-go-on h ∙ cond-false (ltb room at) 0 _ (ltb_fails room at g) ∙ cond-true (eqb left 0) 1 2 (eqb_passes left 0 z))
+  last_end h g z = sym (some_go_on h ∙ cond_false (ltb room at) 0 _ (ltb_fails room at g) ∙ cond_true (eqb left 0) 1 2 (eqb_passes left 0 z))
 
   pub last_more : ways ≢ neither → at ≤ room → left ≢ 0 → on ≡ decided_last ways at room left
-  last_more h g z = sym (some-go-on h ∙ cond-false (ltb room at) 0 _ (ltb_fails room at g) ∙ cond-false (eqb left 0) 1 2 (eqb_fails left 0 z))
+  last_more h g z = sym (some_go_on h ∙ cond_false (ltb room at) 0 _ (ltb_fails room at g) ∙ cond_false (eqb left 0) 1 2 (eqb_fails left 0 z))
 
 -- the last node before that goes on, or the one with the highest bit clear
 abbrev pub last_before : List ℕ → Node → Node

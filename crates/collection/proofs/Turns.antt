@@ -1,4 +1,4 @@
--- The turns of the collection: each makes the work area ready and filled for its state and length (`turn-ready`), and what all turns meet is the list
+-- The turns of the collection: each makes the work area ready and filled for its state and length (`turn_ready`), and what all turns meet is the list
 -- of all events (`all-turns`).
 -- Assumes nothing.
 use Prim.Native.Nat.{ℕ, zero, suc, ◌+◌, ◌-◌, ◌*◌, ◌/◌, ◌%◌, ◌^◌, ◌≤◌, ◌<◌}
@@ -14,7 +14,7 @@ use lib.ListN.{length, get_or, set, length-set}
 use lib.Seq.{get_or-set_other, get_or-set_same}
 use Rattle.lists.specs.Lists.{up_from}
 use Rattle.lists.proofs.Lengths.{up_from-append}
-use Rattle.lists.proofs.Blocks.{flatMap-append}
+use Rattle.lists.proofs.Blocks.{flat_map_append}
 use Rattle.code.specs.Links.{steps_of, event_states}
 use Rattle.code.specs.Trellis.{step_weight}
 use Rattle.code.specs.Model.Steps.{most_steps}
@@ -24,7 +24,7 @@ use Rattle.events.specs.Events.{entry, events_of_length, events_of_state, events
 use Rattle.needed.specs.Model.Tables.{row_words, step_count, steps_place, length_place, threshold_place, half_place, tables_end, length_at, half_at, rows_from, weights_from, prepared, turned}
 use Rattle.needed.proofs.Places.{threshold_region, half_region, store_leaves}
 use Rattle.needed.proofs.Filling.{length-rows_from, length-weights_from, turned-first, turned_later}
-use Rattle.needed.proofs.Rows.{Agree, Filled, need-cong, leastTo-cong, rows_agree, rows_elsewhere, rows-filled}
+use Rattle.needed.proofs.Rows.{Agree, Filled, need-cong, least_to_cong, rows_agree, rows_elsewhere, rows-filled}
 use Rattle.collection.proofs.Ready.{Ready, half_at_most}
 
 -- ---- the work area
@@ -54,8 +54,8 @@ module _ (gs : List ℕ) (v d words steps k : ℕ) (work : List ℕ) (few : step
   abbrev marked : List ℕ
   marked = set work length_place (k % steps + 1)
 
-  marked-ready : Ready gs v d marked
-  marked-ready = ready_same gs v d work marked (length-set work length_place (k % steps + 1)) (λ j h n. length_elsewhere work (k % steps + 1) j n) ready
+  marked_ready : Ready gs v d marked
+  marked_ready = ready_same gs v d work marked (length-set work length_place (k % steps + 1)) (λ j h n. length_elsewhere work (k % steps + 1) j n) ready
 
   marked-length : length_at marked ≡ k % steps + 1
   marked-length = let enough = ready.enough in get_or-set_same work length_place (k % steps + 1) 0 (omega arith)
@@ -63,26 +63,26 @@ module _ (gs : List ℕ) (v d words steps k : ℕ) (work : List ℕ) (few : step
   marked-filled : Filled (k / steps) words steps work → Filled (k / steps) words steps marked
   marked-filled filled r s hr hs =
       let half = half_at_most v hv in
-      let is = marked-ready.half_is in
+      let is = marked_ready.half_is in
       let small : half_at marked ≤ 128 = omega arith in
       let same : Agree r marked work = record { rows = λ j h. length_elsewhere work (k % steps + 1) j (λ e. absurd (omega arith)); upper = λ j h n. length_elsewhere work (k % steps + 1) j n } in
       need-cong marked work r s (length_elsewhere work (k % steps + 1) (r * row_words + s / 8) (λ e. absurd (omega arith)))
-      ∙ filled r s hr hs ∙ sym (leastTo-cong (k / steps) marked work small r s same (omega arith))
+      ∙ filled r s hr hs ∙ sym (least_to_cong (k / steps) marked work small r s same (omega arith))
 
-  pub turn-ready : (k % steps ≢ 0 → Filled (k / steps) words steps work) → Turned gs v d words steps k (turned words steps k work)
-  turn-ready before = elim (ℕ_discrete (k % steps) 0) [
+  pub turn_ready : (k % steps ≢ 0 → Filled (k / steps) words steps work) → Turned gs v d words steps k (turned words steps k work)
+  turn_ready before = elim (ℕ_discrete (k % steps) 0) [
     | yes e ↦
         let new : List ℕ = rows_from (k / steps) words steps 0 marked in
         let half = half_at_most v hv in
-        let is = marked-ready.half_is in
-        let enough = marked-ready.enough in
+        let is = marked_ready.half_is in
+        let enough = marked_ready.enough in
         let agree : Agree 0 new marked = rows_agree (k / steps) words steps 0 marked hw (omega arith) in
         subst (Turned gs v d words steps k) (turned-first words steps k work e) (record {
-          ready = ready_same gs v d marked new (length-rows_from (k / steps) words steps 0 marked) agree.upper marked-ready;
+          ready = ready_same gs v d marked new (length-rows_from (k / steps) words steps 0 marked) agree.upper marked_ready;
           filled = λ r s hr hs. rows-filled (k / steps) words steps 0 marked hw (omega arith) (omega arith) (omega arith) r s (omega arith) (omega arith) hs;
           length_is = rows_elsewhere (k / steps) words steps 0 marked length_place hw (inr (omega arith)) ∙ marked-length;
         })
-    | no n ↦ subst (Turned gs v d words steps k) (turned_later words steps k work n) (record { ready = marked-ready; filled = marked-filled (before n); length_is = marked-length })
+    | no n ↦ subst (Turned gs v d words steps k) (turned_later words steps k work n) (record { ready = marked_ready; filled = marked-filled (before n); length_is = marked-length })
   ]
 
 pub length-turned : (words steps k : ℕ) (work : List ℕ) → length (turned words steps k work) ≡ length work
@@ -138,31 +138,31 @@ prepared_ready gs v d work h =
 
 module _ {A : Type 0} (steps : ℕ) (f : ℕ → ℕ → List A) where
   -- the turns of one state
-  state-turns : (a j n : ℕ) → j + n ≤ steps → flat_map (λ k. f (k / steps) (k % steps + 1)) (up_from (a * steps + j) n) ≡ flat_map (f a) (up_from (j + 1) n)
+  state_turns : (a j n : ℕ) → j + n ≤ steps → flat_map (λ k. f (k / steps) (k % steps + 1)) (up_from (a * steps + j) n) ≡ flat_map (f a) (up_from (j + 1) n)
   unfolding up_from flat_map
-  state-turns a j zero h = refl
-  state-turns a j (suc n) h =
+  state_turns a j zero h = refl
+  state_turns a j (suc n) h =
       ap₂ ◌++◌ (ap₂ (λ (x y : ℕ). f x (y + 1)) (digits_div a (omega arith)) (digits_mod a (omega arith)))
-      (ap (λ (x : ℕ). flat_map (λ k. f (k / steps) (k % steps + 1)) (up_from x n)) (next-turn (a * steps) j) ∙ state-turns a (suc j) n (omega arith) ∙ ap (λ (x : ℕ). flat_map (f a) (up_from x n)) (one_more j))
+      (ap (λ (x : ℕ). flat_map (λ k. f (k / steps) (k % steps + 1)) (up_from x n)) (next_turn (a * steps) j) ∙ state_turns a (suc j) n (omega arith) ∙ ap (λ (x : ℕ). flat_map (f a) (up_from x n)) (one_more j))
     where
-      next-turn : (x y : ℕ) → suc (x + y) ≡ x + suc y
-      next-turn x y = omega arith
+      next_turn : (x y : ℕ) → suc (x + y) ≡ x + suc y
+      next_turn x y = omega arith
 
       one_more : (y : ℕ) → suc y + 1 ≡ suc (y + 1)
       one_more y = omega arith
 
-  pub states-turns : (a m : ℕ) → flat_map (λ k. f (k / steps) (k % steps + 1)) (up_from (a * steps) (m * steps)) ≡ flat_map (λ i. flat_map (f i) (up_from 1 steps)) (up_from a m)
+  pub states_turns : (a m : ℕ) → flat_map (λ k. f (k / steps) (k % steps + 1)) (up_from (a * steps) (m * steps)) ≡ flat_map (λ i. flat_map (f i) (up_from 1 steps)) (up_from a m)
   unfolding up_from flat_map
-  states-turns a zero = ap (λ (x : ℕ). flat_map (λ k. f (k / steps) (k % steps + 1)) (up_from (a * steps) x)) (none steps)
+  states_turns a zero = ap (λ (x : ℕ). flat_map (λ k. f (k / steps) (k % steps + 1)) (up_from (a * steps) x)) (none steps)
     where
       none : (x : ℕ) → 0 * x ≡ 0
       none x = omega arith
-  states-turns a (suc m) =
+  states_turns a (suc m) =
       ap (λ (x : ℕ). flat_map turn (up_from (a * steps) x)) (suc-mul m steps ∙ add_comm (m * steps) steps)
       ∙ ap (flat_map turn) (up_from-append (a * steps) steps (m * steps))
-      ∙ flatMap-append turn (up_from (a * steps) steps) (up_from (a * steps + steps) (m * steps))
-      ∙ ap₂ ◌++◌ (ap (λ (x : ℕ). flat_map turn (up_from x steps)) (no_step (a * steps)) ∙ state-turns a 0 steps (omega arith))
-      (ap (λ (x : ℕ). flat_map turn (up_from x (m * steps))) (sym (suc-mul a steps)) ∙ states-turns (suc a) m)
+      ∙ flat_map_append turn (up_from (a * steps) steps) (up_from (a * steps + steps) (m * steps))
+      ∙ ap₂ ◌++◌ (ap (λ (x : ℕ). flat_map turn (up_from x steps)) (no_step (a * steps)) ∙ state_turns a 0 steps (omega arith))
+      (ap (λ (x : ℕ). flat_map turn (up_from x (m * steps))) (sym (suc-mul a steps)) ∙ states_turns (suc a) m)
     where
       turn : ℕ → List A
       turn k = f (k / steps) (k % steps + 1)
@@ -194,7 +194,7 @@ pub all-turns : (o : Order) → turns_from o (event_states o * steps_of o) 0 ≡
 unfolding turns_from turn_events events events_of_state
 all-turns o =
     ap (λ (x : ℕ). flat_map (λ k. map entry (events_of_length o (k / steps_of o) (k % steps_of o + 1))) (up_from x (event_states o * steps_of o))) (none (steps_of o))
-    ∙ states-turns (steps_of o) (λ i l. map entry (events_of_length o i l)) 0 (event_states o)
+    ∙ states_turns (steps_of o) (λ i l. map entry (events_of_length o i l)) 0 (event_states o)
     ∙ sym (map_flat_map entry (λ i. flat_map (events_of_length o i) (up_from 1 (steps_of o))) (up_from 0 (event_states o))
     ∙ ap (λ (f : ℕ → List Event). flat_map f (up_from 0 (event_states o))) (λ k i. map_flat_map entry (events_of_length o i) (up_from 1 (steps_of o)) k))
   where

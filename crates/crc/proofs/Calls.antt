@@ -13,7 +13,7 @@ use Rattle.order.proofs.Answers.{range}
 use Rattle.poly.specs.Poly.{bit, ◌⊕◌, HasDegree, remainder}
 use Rattle.order.specs.Questions.{first_no, from_to, below}
 use Rattle.order.specs.Answer.{Answer, refused, unless}
-use Rattle.order.proofs.FirstNo.{Numbered, first_no_none, first_no_yes, first_no_no, refused_first, refused_later, is-refused, is-answered, asked}
+use Rattle.order.proofs.FirstNo.{Numbered, first_no_none, first_no_yes, first_no_no, refused_first, refused_later, is_refused, is_answered, asked}
 use Rattle.crc.specs.Check.{append, polynomial_questions, word_questions}
 
 -- what questions 5, 6 and 11 let a call assume
@@ -47,19 +47,19 @@ module _ {A : Type 0} (answer : Answer A) (N m p k u r : ℕ) (e : r ≡ first_n
   unfolding polynomial_questions
   numbered = tt
 
-  pub refused-early : (r ≡ 0 → ⊥) → refused r ≡ unless (first_no (word_questions N m p k u)) answer
+  pub refused_early : (r ≡ 0 → ⊥) → refused r ≡ unless (first_no (word_questions N m p k u)) answer
   unfolding word_questions
-  refused-early n = is-refused answer r _ (refused_first (polynomial_questions N m p) (below k u ∷ []) r numbered e n) n
+  refused_early n = is_refused answer r _ (refused_first (polynomial_questions N m p) (below k u ∷ []) r numbered e n) n
 
-  pub refused-late : r ≡ 0 → ltb u (2 ^ k) ≡ false → refused 12 ≡ unless (first_no (word_questions N m p k u)) answer
+  pub refused_late : r ≡ 0 → ltb u (2 ^ k) ≡ false → refused 12 ≡ unless (first_no (word_questions N m p k u)) answer
   unfolding word_questions
-  refused-late z b =
-      is-refused answer 12 _ (refused_later (polynomial_questions N m p) (below k u ∷ []) r 12 numbered e z (sym (first_no_no (below k u) [] b))) (suc-ne-zero 11)
+  refused_late z b =
+      is_refused answer 12 _ (refused_later (polynomial_questions N m p) (below k u ∷ []) r 12 numbered e z (sym (first_no_no (below k u) [] b))) (suc-ne-zero 11)
 
   pub answered : r ≡ 0 → ltb u (2 ^ k) ≡ true → answer ≡ unless (first_no (word_questions N m p k u)) answer
   unfolding word_questions
   answered z b =
-      is-answered answer _ (refused_later (polynomial_questions N m p) (below k u ∷ []) r 0 numbered e z (sym (first_no_yes (below k u) [] b ∙ first_no_none)))
+      is_answered answer _ (refused_later (polynomial_questions N m p) (below k u ∷ []) r 0 numbered e z (sym (first_no_yes (below k u) [] b ∙ first_no_none)))
 
 -- ---- what append computes
 

@@ -20,10 +20,10 @@ use Rattle.answers.specs.declared.PartAnswer.{PartAnswer}
 use Rattle.answers.specs.Answers.{part_answer}
 
 module _ (counts : List ℕ) (w : ℕ) (table : List ℕ) where
-  by-test : (b : Bool) → part_fits counts w table ≡ b → (part_answer counts w table ≡ cond b record { refusal = 0; start = 2 * paths_to counts (w - 1); numbers = 2 * of_weight w counts } record { refusal = 10; start = 0; numbers = 0 })
+  by_test : (b : Bool) → part_fits counts w table ≡ b → (part_answer counts w table ≡ cond b record { refusal = 0; start = 2 * paths_to counts (w - 1); numbers = 2 * of_weight w counts } record { refusal = 10; start = 0; numbers = 0 })
       × ((part_number counts w table ≡ cond b 0 10) × (part_of counts w table ≡ cond b (take (2 * of_weight w counts) (drop (2 * paths_to counts (w - 1)) table)) []))
   unfolding part_answer part_number part_of
-  by-test b e = (
+  by_test b e = (
     ap (λ (x : Bool). cond {A = PartAnswer} x record { refusal = 0; start = 2 * paths_to counts (w - 1); numbers = 2 * of_weight w counts } record { refusal = 10; start = 0; numbers = 0 }) e,
     (ap (λ (x : Bool). cond {A = ℕ} x 0 10) e, ap (λ (x : Bool). cond x (take (2 * of_weight w counts) (drop (2 * paths_to counts (w - 1)) table)) []) e),
   )
@@ -33,36 +33,36 @@ module _ (counts : List ℕ) (w : ℕ) (table : List ℕ) where
   no_part k e n = by (part_fits counts w table) refl
     where
       by : (b : Bool) → part_fits counts w table ≡ b → ◌≡◌ {A = PartAnswer} record { refusal = 10; start = 0; numbers = 0 } (part_answer counts w table)
-      by true f = absurd (n (e ∙ (by-test true f).1.0))
-      by false f = sym (by-test false f).0
+      by true f = absurd (n (e ∙ (by_test true f).1.0))
+      by false f = sym (by_test false f).0
 
   module _ (k : ℕ) (e : k ≡ part_number counts w table) (none : k ≡ 0) where
-    fits-is : part_fits counts w table ≡ true
-    fits-is = by (part_fits counts w table) refl
+    fits_is : part_fits counts w table ≡ true
+    fits_is = by (part_fits counts w table) refl
       where
         by : (b : Bool) → part_fits counts w table ≡ b → part_fits counts w table ≡ true
         by true f = f
-        by false f = absurd (let n : part_number counts w table ≡ 10 = (by-test false f).1.0 in omega arith)
+        by false f = absurd (let n : part_number counts w table ≡ 10 = (by_test false f).1.0 in omega arith)
 
     -- the weight has a count, and its part ends within the table
-    pub part-bounds : (1 ≤ w) × (w ≤ length counts) × (2 * (paths_to counts (w - 1) + of_weight w counts) ≤ length table)
+    pub part_bounds : (1 ≤ w) × (w ≤ length counts) × (2 * (paths_to counts (w - 1) + of_weight w counts) ≤ length table)
     unfolding part_fits
-    part-bounds =
-        let h = both (from_to 1 (length counts) w) (leb (2 * paths_to counts w) (length table)) fits-is in
+    part_bounds =
+        let h = both (from_to 1 (length counts) w) (leb (2 * paths_to counts w) (length table)) fits_is in
         let between = range 1 (length counts) w h.0 in
         let ends = leb-true (2 * paths_to counts w) (length table) h.1 in
         (between.0, between.1, omega (arith, ends, to_weight counts w between.0))
 
-    pub before-is : (b : ℕ) → b ≡ sum_or counts (w - 1) (length table / 2) → b ≡ paths_to counts (w - 1)
+    pub before_is : (b : ℕ) → b ≡ sum_or counts (w - 1) (length table / 2) → b ≡ paths_to counts (w - 1)
     unfolding sum_or
-    before-is b q =
-        let h = part-bounds.2 in
+    before_is b q =
+        let h = part_bounds.2 in
         q ∙ ap (λ (x : Bool). cond x (paths_to counts (w - 1)) (length table / 2 + 1)) (le-leb (paths_to counts (w - 1)) (length table / 2) (omega arith))
 
     pub a_part : (words : List ℕ) (b : ℕ) → words ≡ part_of counts w table → b ≡ sum_or counts (w - 1) (length table / 2)
         → ◌≡◌ {A = PartAnswer} record { refusal = 0; start = 2 * b; numbers = length words } (part_answer counts w table)
     a_part words b ew eb =
-        let h = part-bounds.2 in
+        let h = part_bounds.2 in
         let c : ℕ = of_weight w counts in
         let long : length (take (2 * c) (drop (2 * paths_to counts (w - 1)) table)) ≡ 2 * c = length-take-le (2 * c) (drop (2 * paths_to counts (w - 1)) table) (subst (λ (x : ℕ). 2 * c ≤ x) (sym (length-drop (2 * paths_to counts (w - 1)) table)) (omega arith)) in
-        ap₂ (λ (x y : ℕ). record { refusal = 0; start = 2 * x; numbers = y }) (before-is b eb) (ap length (ew ∙ (by-test true fits-is).1.1) ∙ long) ∙ sym (by-test true fits-is).0
+        ap₂ (λ (x y : ℕ). record { refusal = 0; start = 2 * x; numbers = y }) (before_is b eb) (ap length (ew ∙ (by_test true fits_is).1.1) ∙ long) ∙ sym (by_test true fits_is).0

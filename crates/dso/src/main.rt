@@ -2,10 +2,10 @@
 // Reads all of standard input as one order record, and prints its row or its refusal.
 use print::print;
 
-// One more read, into nothing; whether there was something.
+// Some more is read, into nothing; whether there was something.
 fn drop_some() -> bool {
     let mut rest = io::buffer();
-    libc::read(0, &mut rest) > 0
+    io::read_full(0, &mut rest) > 0
 }
 
 // Reads what is left. Nothing says that an input ends, so the turns are counted, from a number that no run uses up.

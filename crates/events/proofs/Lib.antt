@@ -1,6 +1,5 @@
 pub mod Inputs
 pub mod Listed
 pub mod OfState
-pub mod Plains
 pub mod Records
 pub mod Shorter

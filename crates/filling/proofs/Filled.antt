@@ -10,7 +10,7 @@ use Rattle.order.specs.Order.{Order}
 use Rattle.paths.specs.Paths.{paths, plain_counts, path_room, path_table}
 use Rattle.filling.specs.Model.Filling.{AllPaths, Filled}
 use Rattle.filling.proofs.Ordered.{Ordered}
-use Rattle.filling.proofs.Weights.{all_words, all-counts, Held}
+use Rattle.filling.proofs.Weights.{all_words, all_counts, Held}
 
 module _ (o : Order) (ps cs : List ℕ) (ok : Ordered o) (enough : o.d - 1 ≤ length cs) (at : ℕ) (ps' cs' : List ℕ) where
   all_there : Held o ok (length ps) (length cs) enough o.d at ps' cs' → AllPaths o ps ps' cs cs' at
@@ -20,8 +20,8 @@ module _ (o : Order) (ps cs : List ℕ) (ok : Ordered o) (enough : o.d - 1 ≤ l
       record {
         fits = subst (λ (l : List ℕ). length l ≤ length ps / 2) all h.fits;
         number = h.place ∙ ap length all;
-        words = h.paths-are ∙ ap (λ (l : List ℕ). padded (length ps) 0 (flat_map halves l)) all;
-        plain_counts_are = h.counts-are ∙ ap (padded (length cs) 0) (all-counts o ok);
+        words = h.paths_are ∙ ap (λ (l : List ℕ). padded (length ps) 0 (flat_map halves l)) all;
+        plain_counts_are = h.counts_are ∙ ap (padded (length cs) 0) (all_counts o ok);
       }
 
   -- once there is no weight left

@@ -16,21 +16,21 @@ module _ (w d next room : ℕ) where
   unfolding later_weight
   later_none h = sym (ap (λ (b : Bool). cond b (w + 1) d) (lt-leb next room h))
 
-  pub later-next : next ≤ room → w + 1 ≡ later_weight w d next room
+  pub later_next : next ≤ room → w + 1 ≡ later_weight w d next room
   unfolding later_weight
-  later-next h = sym (ap (λ (b : Bool). cond b (w + 1) d) (le-leb next room h))
+  later_next h = sym (ap (λ (b : Bool). cond b (w + 1) d) (le-leb next room h))
 
 module _ (paths counts : List ℕ) (at next w : ℕ) where
-  pub settled-full : length paths / 2 < next → (paths ≡ settled_paths paths at next) × (counts ≡ settled_counts (length paths) counts at next w)
+  pub settled_full : length paths / 2 < next → (paths ≡ settled_paths paths at next) × (counts ≡ settled_counts (length paths) counts at next w)
   unfolding settled_paths settled_counts
-  settled-full h = (
+  settled_full h = (
     sym (ap (λ (b : Bool). cond b (sorted_part paths at next) paths) (lt-leb next (length paths / 2) h)),
     sym (ap (λ (b : Bool). cond b (set counts (w - 1) (next - at)) counts) (lt-leb next (length paths / 2) h)),
   )
 
-  pub settled-sorted : next ≤ length paths / 2 → (sorted_part paths at next ≡ settled_paths paths at next) × (set counts (w - 1) (next - at) ≡ settled_counts (length paths) counts at next w)
+  pub settled_sorted : next ≤ length paths / 2 → (sorted_part paths at next ≡ settled_paths paths at next) × (set counts (w - 1) (next - at) ≡ settled_counts (length paths) counts at next w)
   unfolding settled_paths settled_counts
-  settled-sorted h = (
+  settled_sorted h = (
     sym (ap (λ (b : Bool). cond b (sorted_part paths at next) paths) (le-leb next (length paths / 2) h)),
     sym (ap (λ (b : Bool). cond b (set counts (w - 1) (next - at)) counts) (le-leb next (length paths / 2) h)),
   )

@@ -10,25 +10,25 @@ use mathlib.Core.List.{List, [], ◌∷◌, ◌++◌, map, flat_map, map-append,
 use lib.ListN.{length, set, replicate, length-append, length-map}
 use Rattle.lists.specs.Lists.{up_from, padded}
 use Rattle.lists.proofs.Lengths.{up_from_last, length-up_from, length-padded}
-use Rattle.lists.proofs.Blocks.{flatMap-one, flatMap-append}
+use Rattle.lists.proofs.Blocks.{flat_map_one, flat_map_append}
 use Rattle.poly.specs.Word.{halves}
 use Rattle.poly.proofs.Halves.{length-halves}
 use Rattle.order.specs.Order.{Order}
 use Rattle.paths.specs.Paths.{words_of_weight, weights, paths, plain_counts, path_room}
 use Rattle.paths.specs.Model.Joining.{chain_words}
-use Rattle.paths.proofs.Listed.{plain-count-is-part}
-use Rattle.paths.proofs.FromOne.{paths-from-1}
-use Rattle.paths.proofs.Words.{chainWords-distinct, of-chainWords, sorted-chainWords, length-chainWords}
+use Rattle.paths.proofs.Listed.{plain_count_is_part}
+use Rattle.paths.proofs.FromOne.{paths_from_1}
+use Rattle.paths.proofs.Words.{chain_words_distinct, of_chain_words, sorted-chain_words, length-chain_words}
 use Rattle.rotations.specs.Model.Put.{puts}
 use Rattle.rotations.proofs.Puts.{length-puts, puts-listed, puts_too_many}
 use Rattle.bounds.proofs.Placed.{lt_or_ge}
 use Rattle.sort.specs.Model.Sort.{sorted, sorted_part}
 use Rattle.sort.specs.Model.Steps.{Narrow}
 use Rattle.sort.proofs.Sorting.{sorted_within, within_sorted, sorted_increasing}
-use Rattle.sort.proofs.Parts.{narrow-appended, sortedPart-appended}
+use Rattle.sort.proofs.Parts.{narrow_appended, sorted_part_appended}
 use Rattle.filling.specs.Model.Filling.{settled_paths, settled_counts, later_weight, Settles}
 use Rattle.filling.proofs.Ordered.{Ordered}
-use Rattle.filling.proofs.Settled.{later_none, later-next, settled-full, settled-sorted}
+use Rattle.filling.proofs.Settled.{later_none, later_next, settled_full, settled_sorted}
 
 -- one number more after those of a list that is made up by zeros
 set-padded : (size : ℕ) (xs : List ℕ) (x : ℕ) → length xs < size → set (padded size 0 xs) (length xs) x ≡ padded size 0 (xs ++ (x ∷ []))
@@ -54,15 +54,15 @@ module _ (o : Order) (ok : Ordered o) where
   unfoldable pub words_to : ℕ → List ℕ
   words_to w = flat_map (words_of_weight o) (up_from 1 (w - 1))
 
-  unfoldable pub countsTo : ℕ → List ℕ
-  countsTo w = map (λ x. length (words_of_weight o x)) (up_from 1 (w - 1))
+  unfoldable pub counts_to : ℕ → List ℕ
+  counts_to w = map (λ x. length (words_of_weight o x)) (up_from 1 (w - 1))
 
   -- the weights below w + 1
   next-weights : (w : ℕ) → 1 ≤ w → up_from 1 (w + 1 - 1) ≡ up_from 1 (w - 1) ++ (w ∷ [])
-  next-weights w h = ap (up_from 1) longer-by-one ∙ up_from_last 1 (w - 1) ∙ ap (λ (x : ℕ). up_from 1 (w - 1) ++ (x ∷ [])) itself
+  next-weights w h = ap (up_from 1) longer_by_one ∙ up_from_last 1 (w - 1) ∙ ap (λ (x : ℕ). up_from 1 (w - 1) ++ (x ∷ [])) itself
     where
-      longer-by-one : w + 1 - 1 ≡ suc (w - 1)
-      longer-by-one = omega arith
+      longer_by_one : w + 1 - 1 ≡ suc (w - 1)
+      longer_by_one = omega arith
 
       itself : 1 + (w - 1) ≡ w
       itself = omega arith
@@ -70,33 +70,33 @@ module _ (o : Order) (ok : Ordered o) where
   next-words : (w : ℕ) → 1 ≤ w → words_to (w + 1) ≡ words_to w ++ words_of_weight o w
   unfolding words_to
   next-words w h =
-      ap (flat_map (words_of_weight o)) (next-weights w h) ∙ flatMap-append (words_of_weight o) (up_from 1 (w - 1)) (w ∷ [])
-      ∙ ap (λ (l : List ℕ). flat_map (words_of_weight o) (up_from 1 (w - 1)) ++ l) (flatMap-one (words_of_weight o) w)
+      ap (flat_map (words_of_weight o)) (next-weights w h) ∙ flat_map_append (words_of_weight o) (up_from 1 (w - 1)) (w ∷ [])
+      ∙ ap (λ (l : List ℕ). flat_map (words_of_weight o) (up_from 1 (w - 1)) ++ l) (flat_map_one (words_of_weight o) w)
 
-  next-counts : (w : ℕ) → 1 ≤ w → countsTo (w + 1) ≡ countsTo w ++ (length (words_of_weight o w) ∷ [])
-  unfolding countsTo
-  next-counts w h = ap (map part) (next-weights w h) ∙ map-append part (up_from 1 (w - 1)) (w ∷ [])
+  next_counts : (w : ℕ) → 1 ≤ w → counts_to (w + 1) ≡ counts_to w ++ (length (words_of_weight o w) ∷ [])
+  unfolding counts_to
+  next_counts w h = ap (map part) (next-weights w h) ∙ map-append part (up_from 1 (w - 1)) (w ∷ [])
     where
       part : ℕ → ℕ
       part x = length (words_of_weight o x)
 
-  length-countsTo : (w : ℕ) → length (countsTo w) ≡ w - 1
-  unfolding countsTo
-  length-countsTo w = length-map (up_from 1 (w - 1)) (λ x. length (words_of_weight o x)) ∙ length-up_from 1 (w - 1)
+  length_counts_to : (w : ℕ) → length (counts_to w) ≡ w - 1
+  unfolding counts_to
+  length_counts_to w = length-map (up_from 1 (w - 1)) (λ x. length (words_of_weight o x)) ∙ length-up_from 1 (w - 1)
 
   pub all_words : words_to o.d ≡ paths o
   unfolding words_to weights
-  all_words = paths-from-1 o ok.none
+  all_words = paths_from_1 o ok.none
 
-  pub all-counts : countsTo o.d ≡ plain_counts o
-  unfolding countsTo weights
-  all-counts = sym (plain-count-is-part o)
+  pub all_counts : counts_to o.d ≡ plain_counts o
+  unfolding counts_to weights
+  all_counts = sym (plain_count_is_part o)
 
   -- there are no fewer of more weights
-  words-rise : (n w : ℕ) → 1 ≤ w → length (words_to w) ≤ length (words_to (w + n))
-  words-rise zero w g = let e = ap (λ (x : ℕ). length (words_to x)) (add-zero w) in omega arith
-  words-rise (suc n) w g =
-      let h = words-rise n (w + 1) (omega arith) in
+  words_rise : (n w : ℕ) → 1 ≤ w → length (words_to w) ≤ length (words_to (w + n))
+  words_rise zero w g = let e = ap (λ (x : ℕ). length (words_to x)) (add-zero w) in omega arith
+  words_rise (suc n) w g =
+      let h = words_rise n (w + 1) (omega arith) in
       let a = ap length (next-words w g) ∙ length-append (words_to w) (words_of_weight o w) in
       let e = ap (λ (x : ℕ). length (words_to x)) (shift w n) in
       omega arith
@@ -111,30 +111,30 @@ module _ (o : Order) (ok : Ordered o) where
       pub begun : 1 ≤ w
       pub fits : length (words_to w) ≤ size / 2
       pub place : at ≡ length (words_to w)
-      pub paths-are : ps ≡ padded size 0 (flat_map halves (words_to w))
-      pub counts-are : cs ≡ padded csize 0 (countsTo w)
+      pub paths_are : ps ≡ padded size 0 (flat_map halves (words_to w))
+      pub counts_are : cs ≡ padded csize 0 (counts_to w)
 
     -- more than the table takes
     pub record Full (w at : ℕ) (ps cs : List ℕ) : Type 0 where
       pub last : w ≡ o.d
       pub past : at ≡ size / 2 + 1
       pub too_many : size / 2 < length (paths o)
-      pub paths-size : length ps ≡ size
-      pub counts-size : length cs ≡ csize
+      pub paths_size : length ps ≡ size
+      pub counts_size : length cs ≡ csize
 
     pub held_first : Held 1 0 (replicate size 0) (replicate csize 0)
-    unfolding words_to countsTo padded up_from flat_map
+    unfolding words_to counts_to padded up_from flat_map
     held_first =
-        record { begun = omega arith; fits = omega arith; place = refl; paths-are = ap (λ (k : ℕ). replicate k 0) (none-off size); counts-are = ap (λ (k : ℕ). replicate k 0) (none-off csize) }
+        record { begun = omega arith; fits = omega arith; place = refl; paths_are = ap (λ (k : ℕ). replicate k 0) (none_off size); counts_are = ap (λ (k : ℕ). replicate k 0) (none_off csize) }
       where
-        none-off : (x : ℕ) → x ≡ x - 0
-        none-off x = omega arith
+        none_off : (x : ℕ) → x ≡ x - 0
+        none_off x = omega arith
 
-    pub held-sizes : (w at : ℕ) (ps cs : List ℕ) → w ≤ o.d → Held w at ps cs → (length ps ≡ size) × (length cs ≡ csize)
-    held-sizes w at ps cs below h =
+    pub held_sizes : (w at : ℕ) (ps cs : List ℕ) → w ≤ o.d → Held w at ps cs → (length ps ≡ size) × (length cs ≡ csize)
+    held_sizes w at ps cs below h =
         let n = length-halves (words_to w) in
         let f = h.fits in
-        (ap length h.paths-are ∙ length-padded size 0 (flat_map halves (words_to w)) (omega arith), ap length h.counts-are ∙ length-padded csize 0 (countsTo w) (omega (arith, length-countsTo w)))
+        (ap length h.paths_are ∙ length-padded size 0 (flat_map halves (words_to w)) (omega arith), ap length h.counts_are ∙ length-padded csize 0 (counts_to w) (omega (arith, length_counts_to w)))
 
     -- ---- weight w
 
@@ -146,56 +146,56 @@ module _ (o : Order) (ok : Ordered o) where
       us = chain_words o w
 
       -- what is appended to the words before
-      from-listed : ◌≡◌ {A = List ℕ × ℕ} (ps', next) (puts us (padded size 0 (flat_map halves ws), length ws))
-      from-listed = appended ∙ ap₂ (λ (x : List ℕ) (y : ℕ). puts us (x, y)) h.paths-are h.place
+      from_listed : ◌≡◌ {A = List ℕ × ℕ} (ps', next) (puts us (padded size 0 (flat_map halves ws), length ws))
+      from_listed = appended ∙ ap₂ (λ (x : List ℕ) (y : ℕ). puts us (x, y)) h.paths_are h.place
 
-      sorted-is : sorted us ≡ words_of_weight o w
-      sorted-is = sorted-chainWords o ok.some ok.longer w ok.fit light (sorted us) (sorted_increasing us (chainWords-distinct o ok.some ok.longer w)) (sorted_within us) (within_sorted us)
+      sorted_is : sorted us ≡ words_of_weight o w
+      sorted_is = sorted-chain_words o ok.some ok.longer w ok.fit light (sorted us) (sorted_increasing us (chain_words_distinct o ok.some ok.longer w)) (sorted_within us) (within_sorted us)
 
       same_number : length us ≡ length (words_of_weight o w)
-      same_number = length-chainWords o ok.some ok.longer w ok.fit light
+      same_number = length-chain_words o ok.some ok.longer w ok.fit light
 
-      pub size-after : length ps' ≡ size
-      size-after = ap (λ (s : List ℕ × ℕ). length s.0) appended ∙ length-puts us (ps, at) ∙ (held-sizes w at ps cs (omega arith) h).0
+      pub size_after : length ps' ≡ size
+      size_after = ap (λ (s : List ℕ × ℕ). length s.0) appended ∙ length-puts us (ps, at) ∙ (held_sizes w at ps cs (omega arith) h).0
 
       -- where the table takes them
       module _ (room : length ws + length us ≤ size / 2) where
         in_table : ◌≡◌ {A = List ℕ × ℕ} (ps', next) (padded size 0 (flat_map halves (ws ++ us)), length ws + length us)
         unfolding path_room
-        in_table = from-listed ∙ puts-listed size ws us room
+        in_table = from_listed ∙ puts-listed size ws us room
 
-        next-is : next ≡ length ws + length us
-        next-is = ap (λ (s : List ℕ × ℕ). s.1) in_table
+        next_is : next ≡ length ws + length us
+        next_is = ap (λ (s : List ℕ × ℕ). s.1) in_table
 
         zeros : List ℕ
         zeros = replicate (size - length (flat_map halves (ws ++ us))) 0
 
         made : ps' ≡ flat_map halves ws ++ flat_map halves us ++ replicate (size - length (flat_map halves (ws ++ us))) 0
         unfolding padded
-        made = ap (λ (s : List ℕ × ℕ). s.0) in_table ∙ ap (λ (l : List ℕ). l ++ replicate (size - length (flat_map halves (ws ++ us))) 0) (flatMap-append halves ws us)
+        made = ap (λ (s : List ℕ × ℕ). s.0) in_table ∙ ap (λ (l : List ℕ). l ++ replicate (size - length (flat_map halves (ws ++ us))) 0) (flat_map_append halves ws us)
 
         narrow : Narrow ps' at next o.N
         narrow =
-            subst (λ (x : ℕ). Narrow ps' x next o.N) (sym h.place) (subst (λ (x : ℕ). Narrow ps' (length ws) x o.N) (sym next-is)
-            (narrow-appended ws us (replicate (size - length (flat_map halves (ws ++ us))) 0) ps' made o.N ok.few (λ u m. (of-chainWords o ok.some ok.longer w ok.fit u m).1)))
+            subst (λ (x : ℕ). Narrow ps' x next o.N) (sym h.place) (subst (λ (x : ℕ). Narrow ps' (length ws) x o.N) (sym next_is)
+            (narrow_appended ws us (replicate (size - length (flat_map halves (ws ++ us))) 0) ps' made o.N ok.few (λ u m. (of_chain_words o ok.some ok.longer w ok.fit u m).1)))
 
-        sorted-table : sorted_part ps' at next ≡ padded size 0 (flat_map halves (words_to (w + 1)))
+        sorted_table : sorted_part ps' at next ≡ padded size 0 (flat_map halves (words_to (w + 1)))
         unfolding padded
-        sorted-table =
-            ap₂ (sorted_part ps') h.place next-is ∙ sortedPart-appended ws us (replicate (size - length (flat_map halves (ws ++ us))) 0) ps' made
-            ∙ ap₂ (λ (l : List ℕ) (k : ℕ). flat_map halves ws ++ flat_map halves l ++ replicate (size - k) 0) sorted-is same_length
-            ∙ ap (λ (l : List ℕ). l ++ replicate (size - length (flat_map halves (words_to (w + 1)))) 0) (sym (flatMap-append halves ws (words_of_weight o w)) ∙ ap (flat_map halves) (sym (next-words w h.begun)))
+        sorted_table =
+            ap₂ (sorted_part ps') h.place next_is ∙ sorted_part_appended ws us (replicate (size - length (flat_map halves (ws ++ us))) 0) ps' made
+            ∙ ap₂ (λ (l : List ℕ) (k : ℕ). flat_map halves ws ++ flat_map halves l ++ replicate (size - k) 0) sorted_is same_length
+            ∙ ap (λ (l : List ℕ). l ++ replicate (size - length (flat_map halves (words_to (w + 1)))) 0) (sym (flat_map_append halves ws (words_of_weight o w)) ∙ ap (flat_map halves) (sym (next-words w h.begun)))
           where
             same_length : length (flat_map halves (ws ++ us)) ≡ length (flat_map halves (words_to (w + 1)))
             same_length =
                 length-halves (ws ++ us) ∙ ap (λ (x : ℕ). 2 * x) (length-append ws us ∙ ap (λ (x : ℕ). length ws + x) same_number ∙ sym (ap length (next-words w h.begun) ∙ length-append ws (words_of_weight o w)))
                 ∙ sym (length-halves (words_to (w + 1)))
 
-        counted : set cs (w - 1) (next - at) ≡ padded csize 0 (countsTo (w + 1))
+        counted : set cs (w - 1) (next - at) ≡ padded csize 0 (counts_to (w + 1))
         counted =
-            ap₂ (λ (l : List ℕ) (x : ℕ). set l (w - 1) x) h.counts-are (difference (length ws) (length us) next at next-is h.place ∙ same_number)
-            ∙ ap (λ (x : ℕ). set (padded csize 0 (countsTo w)) x (length (words_of_weight o w))) (sym (length-countsTo w))
-            ∙ set-padded csize (countsTo w) (length (words_of_weight o w)) (omega (arith, length-countsTo w, h.begun)) ∙ ap (padded csize 0) (sym (next-counts w h.begun))
+            ap₂ (λ (l : List ℕ) (x : ℕ). set l (w - 1) x) h.counts_are (difference (length ws) (length us) next at next_is h.place ∙ same_number)
+            ∙ ap (λ (x : ℕ). set (padded csize 0 (counts_to w)) x (length (words_of_weight o w))) (sym (length_counts_to w))
+            ∙ set-padded csize (counts_to w) (length (words_of_weight o w)) (omega (arith, length_counts_to w, h.begun)) ∙ ap (padded csize 0) (sym (next_counts w h.begun))
           where
             difference : (a b n m : ℕ) → n ≡ a + b → m ≡ a → n - m ≡ b
             difference a b n m e f = omega arith
@@ -203,26 +203,26 @@ module _ (o : Order) (ok : Ordered o) where
         held_next : Held (w + 1) next (sorted_part ps' at next) (set cs (w - 1) (next - at))
         held_next =
             let n : length (words_to (w + 1)) ≡ length ws + length us = ap length (next-words w h.begun) ∙ length-append ws (words_of_weight o w) ∙ ap (λ (x : ℕ). length ws + x) (sym same_number) in
-            record { begun = omega arith; fits = omega arith; place = next-is ∙ sym n; paths-are = sorted-table; counts-are = counted }
+            record { begun = omega arith; fits = omega arith; place = next_is ∙ sym n; paths_are = sorted_table; counts_are = counted }
 
       -- where it does not
       module _ (room : size / 2 < length ws + length us) where
         next_past : next ≡ size / 2 + 1
         unfolding path_room
-        next_past = ap (λ (s : List ℕ × ℕ). s.1) from-listed ∙ puts_too_many size ws us h.fits room
+        next_past = ap (λ (s : List ℕ × ℕ). s.1) from_listed ∙ puts_too_many size ws us h.fits room
 
-        more-paths : size / 2 < length (paths o)
-        more-paths =
+        more_paths : size / 2 < length (paths o)
+        more_paths =
             let n : length (words_to (w + 1)) ≡ length ws + length us = ap length (next-words w h.begun) ∙ length-append ws (words_of_weight o w) ∙ ap (λ (x : ℕ). length ws + x) (sym same_number) in
-            let rise = words-rise (o.d - (w + 1)) (w + 1) (omega arith) in
+            let rise = words_rise (o.d - (w + 1)) (w + 1) (omega arith) in
             let rest : w + 1 + (o.d - (w + 1)) ≡ o.d = omega arith in
             let e = ap (λ (x : ℕ). length (words_to x)) rest ∙ ap length all_words in
             omega arith
 
       pub settles : Settles ps' cs at next w o.N
       settles =
-          let s = size-after in
-          let c = (held-sizes w at ps cs (omega arith) h).1 in
+          let s = size_after in
+          let c = (held_sizes w at ps cs (omega arith) h).1 in
           record {
             some_weight = h.begun;
             counted = omega (arith, h.begun);
@@ -236,23 +236,23 @@ module _ (o : Order) (ok : Ordered o) where
           over a b n e l p = omega (arith, ap (λ (x : ℕ). x / 2) e, l, p)
 
       -- the table and the counts after weight w, and the weight to go on with
-      pub weight-done : Held (later_weight w o.d next (size / 2)) next (settled_paths ps' at next) (settled_counts (length ps') cs at next w)
+      pub weight_done : Held (later_weight w o.d next (size / 2)) next (settled_paths ps' at next) (settled_counts (length ps') cs at next w)
           ⊎ Full (later_weight w o.d next (size / 2)) next (settled_paths ps' at next) (settled_counts (length ps') cs at next w)
-      weight-done = elim (lt_or_ge (size / 2) (length ws + length us)) [
+      weight_done = elim (lt_or_ge (size / 2) (length ws + length us)) [
         | inl past ↦
             let p = next_past past in
             let full : size / 2 < next = omega arith in
-            let f = settled-full ps' cs at next w (subst (λ (x : ℕ). x / 2 < next) (sym size-after) full) in
+            let f = settled_full ps' cs at next w (subst (λ (x : ℕ). x / 2 < next) (sym size_after) full) in
             inr record {
               last = sym (later_none w o.d next (size / 2) full);
               past = p;
-              too_many = more-paths past;
-              paths-size = sym (ap length f.0) ∙ size-after;
-              counts-size = sym (ap length f.1) ∙ (held-sizes w at ps cs (omega arith) h).1;
+              too_many = more_paths past;
+              paths_size = sym (ap length f.0) ∙ size_after;
+              counts_size = sym (ap length f.1) ∙ (held_sizes w at ps cs (omega arith) h).1;
             }
         | inr room ↦
-            let i : next ≤ size / 2 = subst (λ (x : ℕ). x ≤ size / 2) (sym (next-is room)) room in
-            let f = settled-sorted ps' cs at next w (subst (λ (x : ℕ). next ≤ x / 2) (sym size-after) i) in
-            inl (subst (λ (x : ℕ). Held x next (settled_paths ps' at next) (settled_counts (length ps') cs at next w)) (later-next w o.d next (size / 2) i)
+            let i : next ≤ size / 2 = subst (λ (x : ℕ). x ≤ size / 2) (sym (next_is room)) room in
+            let f = settled_sorted ps' cs at next w (subst (λ (x : ℕ). next ≤ x / 2) (sym size_after) i) in
+            inl (subst (λ (x : ℕ). Held x next (settled_paths ps' at next) (settled_counts (length ps') cs at next w)) (later_next w o.d next (size / 2) i)
             (subst (λ (x : List ℕ). Held (w + 1) next x (settled_counts (length ps') cs at next w)) f.0 (subst (λ (x : List ℕ). Held (w + 1) next (sorted_part ps' at next) x) f.1 (held_next room))))
       ]

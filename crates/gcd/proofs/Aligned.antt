@@ -24,8 +24,8 @@ shifted_degree : (m k b : ℕ) → HasDegree m b → HasDegree (k + m) (b * 2 ^ 
 shifted_degree m k b d = sym (shr-shr (b * 2 ^ k) k m) ∙ ap (λ (x : ℕ). x / 2 ^ m) (shl-shr b k) ∙ d
 
 module _ (a b : ℕ) (a-fits : a < 2 ^ 64) (b-fits : b < 2 ^ 64) (some : 0 < b) where
-  zeros-of-b : count_leading_zeros 64 b + suc (degree b) ≡ 64
-  zeros-of-b = leading_degree b some b-fits
+  zeros_of_b : count_leading_zeros 64 b + suc (degree b) ≡ 64
+  zeros_of_b = leading_degree b some b-fits
 
   -- ---- the degree of a is lower than that of b
 
@@ -34,7 +34,7 @@ module _ (a b : ℕ) (a-fits : a < 2 ^ 64) (b-fits : b < 2 ^ 64) (some : 0 < b) 
       ⊎_elim (λ e. subst (λ (x : ℕ). x < 2 ^ degree b) (sym e) (pow_pos (degree b)))
       (λ pos.
       let zeros-of-a = leading_degree a pos a-fits in
-      let o = zeros-of-b in
+      let o = zeros_of_b in
       let wide : 2 ^ suc (degree a) ≤ 2 ^ degree b = pow_mono (omega arith) in
       let high = (degree_bounds (degree a) a (degree_of a pos)).1 in
       omega arith)
@@ -48,27 +48,27 @@ module _ (a b : ℕ) (a-fits : a < 2 ^ 64) (b-fits : b < 2 ^ 64) (some : 0 < b) 
     up = count_leading_zeros 64 b - count_leading_zeros 64 a
 
     pub up_lt : up < 64
-    up_lt = let o = zeros-of-b in omega arith
+    up_lt = let o = zeros_of_b in omega arith
 
-    a-some : 0 < a
-    a-some =
-        let o = zeros-of-b in
+    a_some : 0 < a
+    a_some =
+        let o = zeros_of_b in
         ⊎_elim (λ e. absurd (let none = ap (count_leading_zeros 64) e ∙ leading_of_zero 64 in omega arith)) (λ pos. pos) (eq-zero-or-pos a)
 
-    degree-a : HasDegree (degree a) a
-    degree-a = degree_of a a-some
+    degree_a : HasDegree (degree a) a
+    degree_a = degree_of a a_some
 
     moved : HasDegree (degree a) (b * 2 ^ up)
     moved =
-        let zeros-of-a = leading_degree a a-some a-fits in
-        let o = zeros-of-b in
+        let zeros-of-a = leading_degree a a_some a-fits in
+        let o = zeros_of_b in
         let same : up + degree b ≡ degree a = omega arith in
         subst (λ (x : ℕ). HasDegree x (b * 2 ^ up)) same (shifted_degree (degree b) up b (degree_of b some))
 
     -- nothing is lost
     whole : b * 2 ^ up % 2 ^ 64 ≡ b * 2 ^ up
     whole =
-        let zeros-of-a = leading_degree a a-some a-fits in
+        let zeros-of-a = leading_degree a a_some a-fits in
         let few : suc (degree a) ≤ 64 = omega arith in
         let wide : 2 ^ suc (degree a) ≤ 2 ^ 64 = pow_mono few in
         let high = (degree_bounds (degree a) (b * 2 ^ up) moved).1 in
@@ -76,8 +76,8 @@ module _ (a b : ℕ) (a-fits : a < 2 ^ 64) (b-fits : b < 2 ^ 64) (some : 0 < b) 
 
     pub falls : a ⊕ (b * 2 ^ up % 2 ^ 64) < a
     falls =
-        let low = (degree_bounds (degree a) a degree-a).0 in
-        let less = same_top_lt (degree a) a (b * 2 ^ up) (degree-a ∙ sym moved) in
+        let low = (degree_bounds (degree a) a degree_a).0 in
+        let less = same_top_lt (degree a) a (b * 2 ^ up) (degree_a ∙ sym moved) in
         subst (λ (x : ℕ). a ⊕ x < a) (sym whole) (omega arith)
 
     pub keeps : remainder (degree b) b (a ⊕ (b * 2 ^ up % 2 ^ 64)) ≡ remainder (degree b) b a

@@ -8,7 +8,7 @@ use native.Mathlib.Omega.{arith}
 use lib.Dec.{ltb, ltb→lt, nltb→le}
 use lib.Pow.{pow_pos, pow_mono}
 use Rattle.lists.proofs.Tests.{passes_or_fails, lt_or_ge}
-use Rattle.lists.proofs.Choices.{cond-true, cond-false}
+use Rattle.lists.proofs.Choices.{cond_true, cond_false}
 use Rattle.poly.specs.Poly.{◌⊕◌, ◌⊗◌, HasDegree, Divides}
 use Rattle.poly.proofs.Sum.{mod2_lt, ⊕_shr, ⊕_zero_r, digit_times_lt}
 use Rattle.poly.proofs.Remainder.{degree_bounds}
@@ -23,10 +23,10 @@ halvings-degree (suc most) a h g =
     (λ t.
     let small = ltb→lt a 2 t in
     let one : a ≡ 1 = omega arith in
-    ap (λ (k : ℕ). a / 2 ^ k) (cond-true (ltb a 2) 0 (suc (halvings most (a / 2))) t) ∙ div-one a ∙ one)
+    ap (λ (k : ℕ). a / 2 ^ k) (cond_true (ltb a 2) 0 (suc (halvings most (a / 2))) t) ∙ div-one a ∙ one)
     (λ t.
     let large = nltb→le a 2 t in
-    ap (λ (k : ℕ). a / 2 ^ k) (cond-false (ltb a 2) 0 (suc (halvings most (a / 2))) t)
+    ap (λ (k : ℕ). a / 2 ^ k) (cond_false (ltb a 2) 0 (suc (halvings most (a / 2))) t)
     ∙ ap (λ (x : ℕ). a / x) (pow-succ' 2 (halvings most (a / 2))) ∙ sym (div-div-eq-div-mul a 2 (2 ^ halvings most (a / 2)))
     ∙ halvings-degree most (a / 2) (omega arith) (omega arith))
     (passes_or_fails (ltb a 2))
@@ -60,12 +60,12 @@ pub ⊗_degree : (m k a b : ℕ) → HasDegree m a → HasDegree k b → HasDegr
     ∙ ⊕_shr (suc (m + k)) (2 * (a ⊗ (b / 2))) (b % 2 * a)
     ∙ ap₂ (λ (x y : ℕ). x ⊕ y)
     (ap (λ (x : ℕ). 2 * (a ⊗ (b / 2)) / x) (pow-succ' 2 (m + k)) ∙ sym (div-div-eq-div-mul (2 * (a ⊗ (b / 2))) 2 (2 ^ (m + k)))
-    ∙ ap (λ (x : ℕ). x / 2 ^ (m + k)) (half-double (a ⊗ (b / 2))) ∙ rest)
+    ∙ ap (λ (x : ℕ). x / 2 ^ (m + k)) (half_double (a ⊗ (b / 2))) ∙ rest)
     (div-eq_of_lt (digit_times_lt (b % 2) a (2 ^ suc (m + k)) (mod2_lt b) (omega arith)))
     ∙ ⊕_zero_r 1
   where
-    half-double : (x : ℕ) → 2 * x / 2 ≡ x
-    half-double x = omega arith
+    half_double : (x : ℕ) → 2 * x / 2 ≡ x
+    half_double x = omega arith
 
 -- ---- factors as numbers
 

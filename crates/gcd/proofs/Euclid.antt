@@ -48,10 +48,10 @@ gcd_zero a = refl
 -- ---- a list
 
 module _ (gs : List ℕ) where
-  pub gcdWith-next : (d i : ℕ) → i < length gs → gcd_with d (drop i gs) ≡ gcd_with (gcd d (get_or gs i 0)) (drop (i + 1) gs)
+  pub gcd_with-next : (d i : ℕ) → i < length gs → gcd_with d (drop i gs) ≡ gcd_with (gcd d (get_or gs i 0)) (drop (i + 1) gs)
   unfolding gcd_with
-  gcdWith-next d i h = ap (gcd_with d) (drop-next (λ _. true) gs 0 i h)
+  gcd_with-next d i h = ap (gcd_with d) (drop-next (λ _. true) gs 0 i h)
 
-  pub gcdWith-end : (d i : ℕ) → length gs ≤ i → gcd_with d (drop i gs) ≡ d
+  pub gcd_with_end : (d i : ℕ) → length gs ≤ i → gcd_with d (drop i gs) ≡ d
   unfolding gcd_with
-  gcdWith-end d i h = ap (gcd_with d) (drop_of_length-le gs h)
+  gcd_with_end d i h = ap (gcd_with d) (drop_of_length-le gs h)

@@ -42,27 +42,27 @@ module _ (Z : ℕ → Type 0) (i : Ideal Z) where
       (i.sum a (b ⊗ d.0) za (multiple b d.0 zb))
 
   -- of a dividend, too, where it holds of the divisor and the remainder
-  pub dividend-in : (m a b : ℕ) → Z b → Z (remainder m b a) → Z a
-  dividend-in m a b zb zr =
+  pub dividend_in : (m a b : ℕ) → Z b → Z (remainder m b a) → Z a
+  dividend_in m a b zb zr =
       let d = division m b a in
       subst Z (sym d.1) (i.sum (b ⊗ d.0) (remainder m b a) (multiple b d.0 zb) zr)
 
-  euclid-in : (most a b : ℕ) → Z a → Z b → Z (euclid most a b)
+  euclid_in : (most a b : ℕ) → Z a → Z b → Z (euclid most a b)
   unfolding euclid
-  euclid-in zero a b za zb = za
-  euclid-in (suc most) a zero za zb = za
-  euclid-in (suc most) a (suc b) za zb =
+  euclid_in zero a b za zb = za
+  euclid_in (suc most) a zero za zb = za
+  euclid_in (suc most) a (suc b) za zb =
       let m : ℕ = degree (suc b) in
-      euclid-in most (suc b) (remainder m (suc b) a) zb (rest_in m a (suc b) za zb)
+      euclid_in most (suc b) (remainder m (suc b) a) zb (rest_in m a (suc b) za zb)
 
-  gcdWith-in : (d : ℕ) (gs : List ℕ) → Z d → ((g : ℕ) → Memᴰ g gs → Z g) → Z (gcd_with d gs)
+  gcd_with_in : (d : ℕ) (gs : List ℕ) → Z d → ((g : ℕ) → Memᴰ g gs → Z g) → Z (gcd_with d gs)
   unfolding gcd_with gcd
-  gcdWith-in d [] z h = z
-  gcdWith-in d (g ∷ gs) z h = gcdWith-in (gcd d g) gs (euclid-in g d g z (h g (Memᴰ.head (λ i. g)))) (λ x m. h x (Memᴰ.tail m))
+  gcd_with_in d [] z h = z
+  gcd_with_in d (g ∷ gs) z h = gcd_with_in (gcd d g) gs (euclid_in g d g z (h g (Memᴰ.head (λ i. g)))) (λ x m. h x (Memᴰ.tail m))
 
-  pub gcdAll-in : (gs : List ℕ) → ((g : ℕ) → Memᴰ g gs → Z g) → Z (gcd_all gs)
+  pub gcd_all_in : (gs : List ℕ) → ((g : ℕ) → Memᴰ g gs → Z g) → Z (gcd_all gs)
   unfolding gcd_all
-  gcdAll-in gs = gcdWith-in 0 gs i.none
+  gcd_all_in gs = gcd_with_in 0 gs i.none
 
 -- ---- multiples of c
 
@@ -77,7 +77,7 @@ pub divides_self : (c : ℕ) → Divides c c
 divides_self c = (1, ⊗_one c)
 
 pub divides-gcd_all : (c : ℕ) (gs : List ℕ) → ((g : ℕ) → Memᴰ g gs → Divides c g) → Divides c (gcd_all gs)
-divides-gcd_all c = gcdAll-in (Divides c) (multiples c)
+divides-gcd_all c = gcd_all_in (Divides c) (multiples c)
 
 -- ---- the greatest common divisor divides
 
@@ -93,7 +93,7 @@ euclid-divides c (suc most) a (suc b) h d =
     let m : ℕ = degree (suc b) in
     let below = remainder_falls a (suc b) (omega arith) in
     let both = euclid-divides c most (suc b) (remainder m (suc b) a) (omega arith) d in
-    (dividend-in (Divides c) (multiples c) m a (suc b) both.0 both.1, both.0)
+    (dividend_in (Divides c) (multiples c) m a (suc b) both.0 both.1, both.0)
 
 gcd_with-divides : (c d : ℕ) (gs : List ℕ) → Divides c (gcd_with d gs) → Divides c d × ((g : ℕ) → Memᴰ g gs → Divides c g)
 unfolding gcd_with gcd

@@ -16,7 +16,7 @@ use Rattle.poly.proofs.Remainder.{remainder_zero, remainder_⊕, remainder_doubl
 use Rattle.gcd.specs.SharedFactor.{share_factor}
 use Rattle.gcd.specs.Model.Gcd.{degree, gcd_all}
 use Rattle.gcd.proofs.Degree.{degree_of, ⊗_degree}
-use Rattle.gcd.proofs.Ideal.{Ideal, gcdAll-in}
+use Rattle.gcd.proofs.Ideal.{Ideal, gcd_all_in}
 use Rattle.gcd.proofs.SharedFactor.{share_factor_by_gcd}
 
 -- keeps sums, and takes x times what it takes to 0 to 0
@@ -50,7 +50,7 @@ one_of_none gs e = eqb→eq (gcd_all gs) 1 (subst T (sym (not-false (eqb (gcd_al
 -- the greatest common divisor is 1, and u times 1 is u
 pub no_zero_multiples : (f : ℕ → ℕ) → Linear f → (u : ℕ) (gs : List ℕ) → share_factor gs ≡ false → ((g : ℕ) → Memᴰ g gs → f (u ⊗ g) ≡ 0) → f u ≡ 0
 no_zero_multiples f l u gs none zeros =
-    ap f (sym (⊗_one u)) ∙ subst (λ (x : ℕ). f (u ⊗ x) ≡ 0) (one_of_none gs none) (gcdAll-in (λ x. f (u ⊗ x) ≡ 0) (vanishing f l u) gs zeros)
+    ap f (sym (⊗_one u)) ∙ subst (λ (x : ℕ). f (u ⊗ x) ≡ 0) (one_of_none gs none) (gcd_all_in (λ x. f (u ⊗ x) ≡ 0) (vanishing f l u) gs zeros)
 
 -- the degrees of factors other than 0 add up
 pub no_zero_product : (a b : ℕ) → 1 ≤ a → 1 ≤ b → 1 ≤ a ⊗ b

@@ -11,7 +11,7 @@ use lib.Dec.{T, T_not, not_T, eqb, eqb→eq}
 use Rattle.lists.specs.Lists.{up_from, all}
 use Rattle.lists.proofs.Tests.{T_and, same_test, lt_or_ge}
 use Rattle.lists.proofs.Choices.{eqb_passes}
-use Rattle.lists.proofs.Member.{of-any, in-any, of-all, in_all, in_up_from}
+use Rattle.lists.proofs.Member.{of_any, in_any, of_all, in_all, in_up_from}
 use Rattle.poly.specs.Poly.{◌⊗◌, Divides}
 use Rattle.poly.proofs.Product.{⊗_zero}
 use Rattle.gcd.specs.SharedFactor.{SharedFactor, SharesFactor, divides, total, share_factor}
@@ -27,8 +27,8 @@ tried k h = in_up_from 0 (suc k) zero-le (omega arith)
 pub divides⇔Divides : (c g : ℕ) → T (divides c g) ↔ Divides c g
 unfolding divides
 divides⇔Divides c g = (
-  λ t. let w = of-any _ _ t in (w.0, eqb→eq _ _ w.2),
-  λ h. let q = least g h in in-any _ _ (tried g q.1) (eqb_passes _ _ q.2),
+  λ t. let w = of_any _ _ t in (w.0, eqb→eq _ _ w.2),
+  λ h. let q = least g h in in_any _ _ (tried g q.1) (eqb_passes _ _ q.2),
 )
   where
     -- a quotient that is at most g
@@ -72,7 +72,7 @@ tested gs c = (
       let parts = (T_and (not (eqb c 1)) (all (divides c) gs)).0 t in
       record {
         not_one = λ e. T_not (eqb c 1) parts.0 (eqb_passes c 1 e);
-        divides_each = λ g m. (divides⇔Divides c g).0 (of-all (divides c) gs parts.1 g m);
+        divides_each = λ g m. (divides⇔Divides c g).0 (of_all (divides c) gs parts.1 g m);
       },
   λ s. (T_and (not (eqb c 1)) (all (divides c) gs)).1 (
     not_T (eqb c 1) (λ t. s.not_one (eqb→eq c 1 t)),
@@ -83,8 +83,8 @@ tested gs c = (
 pub share_factor⇔SharesFactor : (gs : List ℕ) → T (share_factor gs) ↔ SharesFactor gs
 unfolding share_factor
 share_factor⇔SharesFactor gs = (
-  λ t. let w = of-any _ _ t in (w.0, (tested gs w.0).0 w.2),
-  λ h. let w = small gs h in in-any _ _ (tried (total gs) w.1) ((tested gs w.0).1 w.2),
+  λ t. let w = of_any _ _ t in (w.0, (tested gs w.0).0 w.2),
+  λ h. let w = small gs h in in_any _ _ (tried (total gs) w.1) ((tested gs w.0).1 w.2),
 )
 
 -- ---- Euclid's scheme finds it

@@ -22,22 +22,22 @@ use Rattle.collection.specs.Model.Gathered.{AllEvents}
 use Rattle.filling.specs.Model.Filling.{AllPaths}
 use Rattle.undetected.specs.Undetected.{undetected_counts}
 use Rattle.undetected.specs.Model.Steps.{Readable, divided_counts}
-use Rattle.undetected.proofs.Counts.{length-dividedCounts, counted-all, counted-cleared}
+use Rattle.undetected.proofs.Counts.{length-divided_counts, counted-all, counted-cleared}
 use Rattle.choice.specs.Choice.{candidates, first_of, Choice, choice_among, choice}
 use Rattle.choice.specs.Model.Steps.{laid, offered_by, CheckDegree}
 use Rattle.choice.proofs.Best.{best_alone}
-use Rattle.choice.proofs.Offered.{all_offered, some-offered-of}
-use Rattle.choice.proofs.Left.{chosen-counts, chosen-is-choice}
+use Rattle.choice.proofs.Offered.{all_offered, some_offered_of}
+use Rattle.choice.proofs.Left.{chosen_counts, chosen-is-choice}
 use Rattle.narrowing.specs.Narrowed.{narrowed, longest, set_choice}
 use Rattle.narrowing.specs.Model.Firsts.{Ranked, ToAdd}
 use Rattle.narrowing.proofs.Narrowed.{some_left}
-use Rattle.narrowing.proofs.Ranked.{ranked-to-add, ranked-more, kept-narrowed}
+use Rattle.narrowing.proofs.Ranked.{ranked_to_add, ranked_more, kept_narrowed}
 use Rattle.lengths.specs.declared.Shorter.{Shorter}
 use Rattle.lengths.specs.declared.Noted.{Noted}
 use Rattle.lengths.specs.Shorter.{length_at, shorter_in}
 use Rattle.lengths.specs.Model.Noted.{AllFit, OneTooMany}
 use Rattle.lengths.specs.Shorter.{for_each}
-use Rattle.lengths.proofs.Listed.{readable-left, divided-left}
+use Rattle.lengths.proofs.Listed.{readable_left, divided_left}
 use Rattle.row.specs.declared.Answered.{Answered}
 use Rattle.row.specs.declared.Answered.TheVariants as A
 use Rattle.row.specs.declared.Row.{Row}
@@ -47,7 +47,7 @@ use Rattle.jobs.specs.declared.Plan.{Plan}
 use Rattle.row.specs.Answered.{row, answered_as}
 use Rattle.jobs.specs.Jobs.{SearchTables, search_tables, cleared_search, filled_search, chosen, collected, listed, counted, rows_of, made, ran}
 use Rattle.jobs.specs.Model.Steps.{row_order, only_events, listed_before, ToList, ToChooseFor, ToServe, JobAsks, ToFinishOver, LeftBy, ToNarrow, ToFinish, ChoseOf, Finished, MadeAs}
-use Rattle.jobs.proofs.Fits.{fit-or-not, too-many-events, too-many-paths, all_fit}
+use Rattle.jobs.proofs.Fits.{fit_or_not, too_many_events, too_many_paths, all_fit}
 
 abbrev Outcome : Type 0
 Outcome = Answer Row × SearchTables
@@ -76,14 +76,14 @@ module _ (s : Shorter) (l o : Order) (t : SearchTables) where
   abbrev np : ℕ
   np = length t.paths
 
-  pub ran-13 : (job : Job) → ne < length (events l) → ran job Ns l o t ≡ (refused 13, cleared_search t)
+  pub ran_13 : (job : Job) → ne < length (events l) → ran job Ns l o t ≡ (refused 13, cleared_search t)
   unfolding ran
-  ran-13 job h = sym (too-many-events l _ ne np (cleared_search t) _ h)
+  ran_13 job h = sym (too_many_events l _ ne np (cleared_search t) _ h)
 
   module _ (fits : length (events l) ≤ ne) where
-    pub ran-14 : (job : Job) → OneTooMany np (rows_of job Ns o) → ran job Ns l o t ≡ (refused 14, cleared_search t)
+    pub ran_14 : (job : Job) → OneTooMany np (rows_of job Ns o) → ran job Ns l o t ≡ (refused 14, cleared_search t)
     unfolding ran
-    ran-14 job h = sym (too-many-paths l (rows_of job Ns o) ne np (cleared_search t) (made job Ns l o t) fits h)
+    ran_14 job h = sym (too_many_paths l (rows_of job Ns o) ne np (cleared_search t) (made job Ns l o t) fits h)
 
     pub ran-made : (job : Job) → AllFit np (rows_of job Ns o) → made job Ns l o t ≡ ran job Ns l o t
     unfolding ran
@@ -96,21 +96,21 @@ module _ (s : Shorter) (l o : Order) (t : SearchTables) where
 
   ended : (job : Job) → Ends job
   ended job = elim (lt_or_ge ne (length (events l))) [
-    | inl more ↦ inr (12, ran-13 job more)
-    | inr fits ↦ ⊎_elim (λ h. inl (ran-made fits job h)) (λ h. inr (13, ran-14 fits job h)) (fit-or-not np (rows_of job Ns o))
+    | inl more ↦ inr (12, ran_13 job more)
+    | inr fits ↦ ⊎_elim (λ h. inl (ran-made fits job h)) (λ h. inr (13, ran_14 fits job h)) (fit_or_not np (rows_of job Ns o))
   ]
 
-  made-accepted : (job : Job) → refusal_number (made job Ns l o t).0 ≡ 0
+  made_accepted : (job : Job) → refusal_number (made job Ns l o t).0 ≡ 0
   unfolding refusal_number made collected listed chosen counted
-  made-accepted J.Collect = refl
-  made-accepted J.List = refl
-  made-accepted J.Choose = refl
-  made-accepted J.ChooseFor = refl
-  made-accepted (J.Count p) = refl
+  made_accepted J.Collect = refl
+  made_accepted J.List = refl
+  made_accepted J.Choose = refl
+  made_accepted J.ChooseFor = refl
+  made_accepted (J.Count p) = refl
 
   pub late : (job : Job) → (refusal_number (ran job Ns l o t).0 ≡ 0 → ⊥) → ran job Ns l o t ≡ ((ran job Ns l o t).0, cleared_search t)
   late job some = ⊎_elim
-      (λ e. absurd (some (sym (ap (λ (x : Outcome). refusal_number x.0) e) ∙ made-accepted job)))
+      (λ e. absurd (some (sym (ap (λ (x : Outcome). refusal_number x.0) e) ∙ made_accepted job)))
       (λ e. e.1 ∙ ap (λ (x : Outcome). (x.0, cleared_search t)) (sym e.1))
       (ended job)
 
@@ -118,9 +118,9 @@ module _ (s : Shorter) (l o : Order) (t : SearchTables) where
 
   module _ (es : List Event) (ls ms us : List ℕ) (n at : ℕ) (events-left : AllEvents l t.events es n) (zeros : us ≡ cleared 0 t.work) where
     -- events alone
-    pub only-collected : (r : Answered) → r ≡ A.Row (row n 0 0 0) → ◌≡◌ {A = Outcome} (answered_as r, search_tables es t.paths t.plain t.undetected us) (made J.Collect Ns l o t)
+    pub only_collected : (r : Answered) → r ≡ A.Row (row n 0 0 0) → ◌≡◌ {A = Outcome} (answered_as r, search_tables es t.paths t.plain t.undetected us) (made J.Collect Ns l o t)
     unfolding made collected
-    only-collected r e =
+    only_collected r e =
         ap (λ (x : Answered). (answered_as x, search_tables es t.paths t.plain t.undetected us)) e
         ∙ (λ i. (accepted (row (events-left.number i) 0 0 0), search_tables (events-left.table i) t.paths t.plain t.undetected (zeros i)))
 
@@ -135,9 +135,9 @@ module _ (s : Shorter) (l o : Order) (t : SearchTables) where
       abbrev done : List ℕ → SearchTables
       done after = search_tables es ls ms after us
 
-      tables-left : (after list : List ℕ) → after ≡ list
+      tables_left : (after list : List ℕ) → after ≡ list
           → done after ≡ search_tables (event_table ne l) (path_table np o) (padded nc 0 (plain_counts o)) list (cleared 0 t.work)
-      tables-left after list e = λ i. search_tables (events-left.table i) (paths-left.words i) (paths-left.plain_counts_are i) (e i) (zeros i)
+      tables_left after list e = λ i. search_tables (events-left.table i) (paths-left.words i) (paths-left.plain_counts_are i) (e i) (zeros i)
 
       told : (r : Answered) (p s : ℕ) → r ≡ A.Row (row few at p s) → answered_as r ≡ accepted (row (length (events o)) (length (paths o)) p s)
       told r p s e = ap answered_as e ∙ (λ i. accepted (row (is-few i) (paths-left.number i) p s))
@@ -145,16 +145,16 @@ module _ (s : Shorter) (l o : Order) (t : SearchTables) where
       paired : {a b : Answer Row} {x y : SearchTables} → a ≡ b → x ≡ y → ◌≡◌ {A = Outcome} (a, x) (b, y)
       paired e f = ap₂ (λ a x. (a, x)) e f
 
-      pub only-listed : (r : Answered) (after : List ℕ) → after ≡ t.undetected → r ≡ A.Row (row few at 0 0) → ◌≡◌ {A = Outcome} (answered_as r, done after) (made J.List Ns l o t)
+      pub only_listed : (r : Answered) (after : List ℕ) → after ≡ t.undetected → r ≡ A.Row (row few at 0 0) → ◌≡◌ {A = Outcome} (answered_as r, done after) (made J.List Ns l o t)
       unfolding made listed
-      only-listed r after same e = paired (told r 0 0 e) (tables-left after t.undetected same)
+      only_listed r after same e = paired (told r 0 0 e) (tables_left after t.undetected same)
 
       module _ (may : ToChooseFor o t.plain t.undetected) where
         readable : Readable o.N (o.d - 1) ls ms
-        readable = readable-left o may.list.order.code paths-left may.list.plain_room
+        readable = readable_left o may.list.order.code paths-left may.list.plain_room
 
         divided : (p : ℕ) → divided_counts o.m ls ms (o.d - 1) p ≡ undetected_counts o p
-        divided = divided-left o may.list.order.code paths-left
+        divided = divided_left o may.list.order.code paths-left
 
         degree : CheckDegree o.m
         degree = record { some_degree = may.whole.degree.some_degree; at_most_12 = may.whole.degree.at_most_12 }
@@ -163,72 +163,72 @@ module _ (s : Shorter) (l o : Order) (t : SearchTables) where
         over = record { readable = readable; degree = degree; counts = may.undetected_room }
 
         -- in a list of zeros, as the choice leaves it
-        laid-left : (p : ℕ) → laid (undetected_counts o p) (replicate nu 0) ≡ padded nu 0 (undetected_counts o p)
+        laid_left : (p : ℕ) → laid (undetected_counts o p) (replicate nu 0) ≡ padded nu 0 (undetected_counts o p)
         unfolding laid
-        laid-left p =
+        laid_left p =
             let blank : List ℕ = replicate nu 0 in
             ap (λ (x : List ℕ). laid x blank) (sym (divided p))
-            ∙ ap (λ (k : ℕ). divided_counts o.m ls ms (o.d - 1) p ++ drop k blank) (length-dividedCounts o.m p ls ms (o.d - 1))
+            ∙ ap (λ (k : ℕ). divided_counts o.m ls ms (o.d - 1) p ++ drop k blank) (length-divided_counts o.m p ls ms (o.d - 1))
             ∙ sym (counted-all o.m p ls ms (o.d - 1) blank)
             ∙ counted-cleared o.m p ls ms (o.d - 1) nu may.undetected_room ∙ ap (padded nu 0) (divided p)
 
         -- the best of those offered is told, and so many
-        pub is-chosen : (ps : List ℕ) (shared : ℕ → ℕ) (r : Answered) (after : List ℕ) → ChoseOf ps shared o.m (o.d - 1) few at ls ms t.undetected after r
+        pub is_chosen : (ps : List ℕ) (shared : ℕ → ℕ) (r : Answered) (after : List ℕ) → ChoseOf ps shared o.m (o.d - 1) few at ls ms t.undetected after r
             → ◌≡◌ {A = Outcome} (answered_as r, done after) (chosen l o t (shared_by shared (choice_among (undetected_counts o) ps)))
         unfolding chosen filled_search
-        is-chosen ps shared r after (x, chose, e) =
-            paired (told r x.polynomial (shared x.shared) e) (tables-left after _ (chosen-counts o divided chose ∙ laid-left x.polynomial))
+        is_chosen ps shared r after (x, chose, e) =
+            paired (told r x.polynomial (shared x.shared) e) (tables_left after _ (chosen_counts o divided chose ∙ laid_left x.polynomial))
             ∙ ap (λ (c : Choice). chosen l o t (shared_by shared c)) (chosen-is-choice o divided chose)
 
         -- ---- of all
 
-        pub best-of-all : (r : Answered) (after : List ℕ) → ChoseOf (offered_by o.m (replicate 2048 true)) (λ n. n) o.m (o.d - 1) few at ls ms t.undetected after r
+        pub best_of_all : (r : Answered) (after : List ℕ) → ChoseOf (offered_by o.m (replicate 2048 true)) (λ n. n) o.m (o.d - 1) few at ls ms t.undetected after r
             → ◌≡◌ {A = Outcome} (answered_as r, done after) (made J.Choose Ns l o t)
         unfolding made choice
-        best-of-all r after chose =
-            is-chosen _ (λ n. n) r after chose ∙ ap (λ (ps : List ℕ). chosen l o t (choice_among (undetected_counts o) ps)) (all_offered o.m degree.at_most_12)
+        best_of_all r after chose =
+            is_chosen _ (λ n. n) r after chose ∙ ap (λ (ps : List ℕ). chosen l o t (choice_among (undetected_counts o) ps)) (all_offered o.m degree.at_most_12)
 
         -- ---- of one, whose best is itself
 
-        pub best-of-one : (p : ℕ) (r : Answered) (after : List ℕ) → ChoseOf (p ∷ []) (λ n. 0) o.m (o.d - 1) few at ls ms t.undetected after r
+        pub best_of_one : (p : ℕ) (r : Answered) (after : List ℕ) → ChoseOf (p ∷ []) (λ n. 0) o.m (o.d - 1) few at ls ms t.undetected after r
             → ◌≡◌ {A = Outcome} (answered_as r, done after) (made (J.Count p) Ns l o t)
         unfolding made counted
-        best-of-one p r after chose =
-            is-chosen (p ∷ []) (λ n. 0) r after chose ∙ ap (λ (c : Choice). chosen l o t (shared_by (λ n. 0) c)) (alone_chosen (undetected_counts o) p)
+        best_of_one p r after chose =
+            is_chosen (p ∷ []) (λ n. 0) r after chose ∙ ap (λ (c : Choice). chosen l o t (shared_by (λ n. 0) c)) (alone_chosen (undetected_counts o) p)
 
         -- ---- of those left by a set of lengths
 
         module _ (noted : Noted) (ranked : Ranked o Ns noted.firsts) (few-lengths : length Ns ≤ 7) where
-          to-add : ToAdd o.N (o.d - 1) o.m ls ms noted.firsts
-          to-add = let light = may.list.order.threshold in ranked-to-add o ranked few-lengths readable degree light.some_weight light.at_most_64
+          to_add : ToAdd o.N (o.d - 1) o.m ls ms noted.firsts
+          to_add = let light = may.list.order.threshold in ranked_to_add o ranked few-lengths readable degree light.some_weight light.at_most_64
 
           left_is : (flags : List Bool) → LeftBy o.m (o.d - 1) noted ls ms flags → offered_by o.m flags ≡ narrowed o (o.N ∷ Ns) (candidates o.m)
           unfolding with_length
           left_is flags (f, added, kept) =
               let light = may.list.order.threshold in
-              kept-narrowed o (ranked-more o {N = o.N} ranked divided added) kept light.some_weight light.at_most_64
+              kept_narrowed o (ranked_more o {N = o.N} ranked divided added) kept light.some_weight light.at_most_64
 
           pub to_narrow : ToNarrow o.N o.m (o.d - 1) noted ls ms
           to_narrow = record {
-            add = to-add;
+            add = to_add;
             some_left = λ flags left.
                 let (p, member) = some_left o (o.N ∷ Ns) in
-                some-offered-of o.m flags (subst (Memᴰ p) (sym (left_is flags left)) member);
+                some_offered_of o.m flags (subst (Memᴰ p) (sym (left_is flags left)) member);
           }
 
-          pub best-left : (r : Answered) (after : List ℕ) (flags : List Bool) → LeftBy o.m (o.d - 1) noted ls ms flags
+          pub best_left : (r : Answered) (after : List ℕ) (flags : List Bool) → LeftBy o.m (o.d - 1) noted ls ms flags
               → ChoseOf (offered_by o.m flags) (λ n. n) o.m (o.d - 1) few at ls ms t.undetected after r → ◌≡◌ {A = Outcome} (answered_as r, done after) (made J.ChooseFor Ns l o t)
           unfolding made set_choice longest first_of with_length
-          best-left r after flags left chose =
-              is-chosen _ (λ n. n) r after chose ∙ ap (λ (ps : List ℕ). chosen l o t (choice_among (undetected_counts o) ps)) (left_is flags left)
+          best_left r after flags left chose =
+              is_chosen _ (λ n. n) r after chose ∙ ap (λ (ps : List ℕ). chosen l o t (choice_among (undetected_counts o) ps)) (left_is flags left)
 
       -- ---- by the job
 
       -- the shorter lengths that are listed have been noted
       module _ (job : Job) (a : JobAsks job s o t.plain t.undetected) (noted : Noted) (ranked : Ranked o (shorter_in (listed_before job s)) noted.firsts) where
-        pub to-finish : ToFinish job o.N o.m (o.d - 1) noted ls ms t.undetected
+        pub to_finish : ToFinish job o.N o.m (o.d - 1) noted ls ms t.undetected
         unfolding JobAsks ToFinish listed_before
-        to-finish = by job a ranked
+        to_finish = by job a ranked
           where
             by : (job : Job) → JobAsks job s o t.plain t.undetected → Ranked o (shorter_in (listed_before job s)) noted.firsts → ToFinish job o.N o.m (o.d - 1) noted ls ms t.undetected
             by J.Collect a k = tt
@@ -237,17 +237,17 @@ module _ (s : Shorter) (l o : Order) (t : SearchTables) where
             by J.ChooseFor a k = (over a.0, to_narrow a.0 noted k (few_served s o a.1))
             by (J.Count p) a k = (over a.0, a.1)
 
-        pub is-done : only_events job ≡ 0 → (r : Answered) (after : List ℕ) → Finished job o.m (o.d - 1) noted few at ls ms t.undetected after r → ◌≡◌ {A = Outcome} (answered_as r, done after) (made job Ns l o t)
+        pub is_done : only_events job ≡ 0 → (r : Answered) (after : List ℕ) → Finished job o.m (o.d - 1) noted few at ls ms t.undetected after r → ◌≡◌ {A = Outcome} (answered_as r, done after) (made job Ns l o t)
         unfolding JobAsks Finished only_events listed_before
-        is-done = by job a ranked
+        is_done = by job a ranked
           where
             by : (job : Job) → JobAsks job s o t.plain t.undetected → Ranked o (shorter_in (listed_before job s)) noted.firsts → only_events job ≡ 0 → (r : Answered) (after : List ℕ)
                 → Finished job o.m (o.d - 1) noted few at ls ms t.undetected after r → ◌≡◌ {A = Outcome} (answered_as r, done after) (made job Ns l o t)
             by J.Collect a k z r after f = absurd (omega (arith, z))
-            by J.List a k z r after f = only-listed r after f.0 f.1
-            by J.Choose a k z r after f = best-of-all a r after f
-            by J.ChooseFor a k z r after f = best-left a.0 noted k (few_served s o a.1) r after f.0 f.1 f.2
-            by (J.Count p) a k z r after f = best-of-one a.0 p r after f
+            by J.List a k z r after f = only_listed r after f.0 f.1
+            by J.Choose a k z r after f = best_of_all a r after f
+            by J.ChooseFor a k z r after f = best_left a.0 noted k (few_served s o a.1) r after f.0 f.1 f.2
+            by (J.Count p) a k z r after f = best_of_one a.0 p r after f
 
 -- ---- what `make` shows of a plan at each of its ends
 
@@ -314,28 +314,28 @@ module _ (plan : Plan) (t : SearchTables) where
     leaves = λ z. let is = ap (λ (x : Answered). refusal_number (answered_as x)) e in absurd (omega arith);
   }
 
-  pub as-13 : (r : Answered) (left : SearchTables) → r ≡ A.Refused 13 → length t.events < length (events longer) → MadeAs plan t (answered_as r) left
-  as-13 r left e h = refused_as 12 r left e (ran-13 plan.shorter longer o t plan.job h)
+  pub as_13 : (r : Answered) (left : SearchTables) → r ≡ A.Refused 13 → length t.events < length (events longer) → MadeAs plan t (answered_as r) left
+  as_13 r left e h = refused_as 12 r left e (ran_13 plan.shorter longer o t plan.job h)
 
-  pub as-14 : (r : Answered) (left : SearchTables) → r ≡ A.Refused 14 → only_events plan.job ≡ 0 → length (events longer) ≤ length t.events → OneTooMany (length t.paths) (o ∷ others)
+  pub as_14 : (r : Answered) (left : SearchTables) → r ≡ A.Refused 14 → only_events plan.job ≡ 0 → length (events longer) ≤ length t.events → OneTooMany (length t.paths) (o ∷ others)
       → MadeAs plan t (answered_as r) left
-  as-14 r left e z f h = refused_as 13 r left e (ran-14 plan.shorter longer o t f plan.job (subst (OneTooMany (length t.paths)) (sym (row_first plan.job plan.shorter o z)) h))
+  as_14 r left e z f h = refused_as 13 r left e (ran_14 plan.shorter longer o t f plan.job (subst (OneTooMany (length t.paths)) (sym (row_first plan.job plan.shorter o z)) h))
 
   module _ (es : List Event) (us : List ℕ) (n : ℕ) (events-left : AllEvents longer t.events es n) (zeros : us ≡ cleared 0 t.work) where
-    none-listed : plan.job ≡ J.Collect → AllFit (length t.paths) (rows_of plan.job (shorter_in plan.shorter) o)
+    none_listed : plan.job ≡ J.Collect → AllFit (length t.paths) (rows_of plan.job (shorter_in plan.shorter) o)
     unfolding rows_of AllFit
-    none-listed is = subst (λ (job : Job). AllFit (length t.paths) (rows_of job (shorter_in plan.shorter) o)) (sym is) tt
+    none_listed is = subst (λ (job : Job). AllFit (length t.paths) (rows_of job (shorter_in plan.shorter) o)) (sym is) tt
 
-    pub as-collected : (r : Answered) → r ≡ A.Row (row n 0 0 0) → (only_events plan.job ≡ 0 → ⊥) → MadeAs plan t (answered_as r) (search_tables es t.paths t.plain t.undetected us)
-    as-collected r e some =
+    pub as_collected : (r : Answered) → r ≡ A.Row (row n 0 0 0) → (only_events plan.job ≡ 0 → ⊥) → MadeAs plan t (answered_as r) (search_tables es t.paths t.plain t.undetected us)
+    as_collected r e some =
         let is = is_collect plan.job some in
-        made_as _ _ (only-collected plan.shorter longer o t es [] [] us n 0 events-left zeros r e
-        ∙ ap (λ (job : Job). made job (shorter_in plan.shorter) longer o t) (sym is) ∙ ran-made plan.shorter longer o t events-left.fits plan.job (none-listed is))
+        made_as _ _ (only_collected plan.shorter longer o t es [] [] us n 0 events-left zeros r e
+        ∙ ap (λ (job : Job). made job (shorter_in plan.shorter) longer o t) (sym is) ∙ ran-made plan.shorter longer o t events-left.fits plan.job (none_listed is))
 
-    pub as-done : (ls ms : List ℕ) (at : ℕ) → AllPaths o t.paths ls t.plain ms at → AllFit (length t.paths) others → (few : ℕ) → few ≡ length (events o) → only_events plan.job ≡ 0
+    pub as_done : (ls ms : List ℕ) (at : ℕ) → AllPaths o t.paths ls t.plain ms at → AllFit (length t.paths) others → (few : ℕ) → few ≡ length (events o) → only_events plan.job ≡ 0
         → (a : JobAsks plan.job plan.shorter o t.plain t.undetected) (noted : Noted) → Ranked o (shorter_in (listed_before plan.job plan.shorter)) noted.firsts
         → (r : Answered) (after : List ℕ) → Finished plan.job o.m (o.d - 1) noted few at ls ms t.undetected after r → MadeAs plan t (answered_as r) (search_tables es ls ms after us)
     unfolding AllFit
-    as-done ls ms at paths-left others-fit few is-few z a noted ranked r after f =
-        made_as _ _ (is-done plan.shorter longer o t es ls ms us n at events-left zeros paths-left few is-few plan.job a noted ranked z r after f
+    as_done ls ms at paths-left others-fit few is-few z a noted ranked r after f =
+        made_as _ _ (is_done plan.shorter longer o t es ls ms us n at events-left zeros paths-left few is-few plan.job a noted ranked z r after f
         ∙ ran-made plan.shorter longer o t events-left.fits plan.job (subst (AllFit (length t.paths)) (sym (row_first plan.job plan.shorter o z)) (paths-left.fits, others-fit)))

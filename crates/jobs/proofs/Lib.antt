@@ -1,3 +1,2 @@
-pub mod Plains
 pub mod Fits
 pub mod Answers

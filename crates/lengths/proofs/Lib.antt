@@ -1,3 +1,2 @@
-pub mod Plains
 pub mod Listed
 pub mod Noting

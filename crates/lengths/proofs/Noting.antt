@@ -14,12 +14,12 @@ use Rattle.events.specs.declared.Event.{Event}
 use Rattle.paths.specs.Paths.{paths, path_room}
 use Rattle.filling.specs.Model.Filling.{ToFill, AllPaths}
 use Rattle.narrowing.specs.Model.Firsts.{NoFirsts, Added, Ranked}
-use Rattle.narrowing.proofs.Ranked.{ranked-none, ranked-any, ranked-more}
+use Rattle.narrowing.proofs.Ranked.{ranked_none, ranked_any, ranked_more}
 use Rattle.lengths.specs.declared.Shorter.{Shorter}
 use Rattle.lengths.specs.declared.Noted.{Noted}
 use Rattle.lengths.specs.Shorter.{for_each, length_at, shorter_in}
 use Rattle.lengths.specs.Model.Noted.{AllFit, OneTooMany, ToListNext, ListedNext, ToListShorter, ListedShorter}
-use Rattle.lengths.proofs.Listed.{divided-left}
+use Rattle.lengths.proofs.Listed.{divided_left}
 
 cleared_as : (l m : List ℕ) → length l ≡ length m → cleared 0 l ≡ cleared 0 m
 unfolding cleared
@@ -43,9 +43,9 @@ module _ (o : Order) (s : Shorter) (es : List Event) (n : ℕ) (table plain work
       let b : suc k ≡ k + 1 = omega arith in
       ap (λ (i : ℕ). next k ∷ map (length_at s) (up_from i k)) (sym a) ∙ ap (λ (j : ℕ). map (length_at s) (up_from (s.count - (k + 1)) j)) b
 
-  last-all : (k : ℕ) → k ≡ s.count → last k ≡ shorter_in s
+  last_all : (k : ℕ) → k ≡ s.count → last k ≡ shorter_in s
   unfolding shorter_in
-  last-all k e =
+  last_all k e =
       let a : s.count - k ≡ 0 = omega arith in
       ap (λ (i : ℕ). map (length_at s) (up_from i k)) a ∙ ap (λ (j : ℕ). map (length_at s) (up_from 0 j)) e
 
@@ -55,20 +55,20 @@ module _ (o : Order) (s : Shorter) (es : List Event) (n : ℕ) (table plain work
     pub past : (x.refusal ≡ 0 → ⊥) → OneTooMany np (for_each (last k) o)
     pub inside : x.refusal ≡ 0 → AllFit np (for_each (last k) o) × Ranked o (last k) x.firsts
     pub zeros : us ≡ cleared 0 work
-    pub same-ls : length ls ≡ length table
+    pub same_ls : length ls ≡ length table
     pub same_ms : length ms ≡ length plain
-    pub same-us : length us ≡ length work
+    pub same_us : length us ≡ length work
 
   pub begun : (x : Noted) → (x.refusal ≡ 0) × NoFirsts x.firsts → Stands 0 x table plain work
   unfolding up_from for_each AllFit
   begun x e = record {
     within = omega arith;
     past = λ some. absurd (some e.0);
-    inside = λ _. (tt, ranked-none o e.1);
+    inside = λ _. (tt, ranked_none o e.1);
     zeros = asked.zeros;
-    same-ls = refl;
+    same_ls = refl;
     same_ms = refl;
-    same-us = refl;
+    same_us = refl;
   }
 
   module _ {k : ℕ} {x : Noted} {ls ms us : List ℕ} (stands : Stands k x ls ms us) (more : k < s.count) where
@@ -86,20 +86,20 @@ module _ (o : Order) (s : Shorter) (es : List Event) (n : ℕ) (table plain work
           from = f.from;
           all = f.all;
           counts = rw stands.same_ms f.counts;
-          wide = rw stands.same-us f.wide;
-          zeros = stands.zeros ∙ cleared_as work us (sym stands.same-us);
+          wide = rw stands.same_us f.wide;
+          zeros = stands.zeros ∙ cleared_as work us (sym stands.same_us);
         }
 
-    pub to-next : (q : Order) → q ≡ o' → ToListNext q x es n ms us
+    pub to_next : (q : Order) → q ≡ o' → ToListNext q x es n ms us
     unfolding with_length
-    to-next q e = subst (λ (y : Order). ToListNext y x es n ms us) (sym e) (record {
+    to_next q e = subst (λ (y : Order). ToListNext y x es n ms us) (sym e) (record {
       fill = to_fill;
       degree = asked.degree (omega arith);
-      ranked = λ z. (last k, ranked-any o (next k) (stands.inside z).1, omega (arith, asked.few, length-map-up_from (length_at s) (s.count - k) k));
+      ranked = λ z. (last k, ranked_any o (next k) (stands.inside z).1, omega (arith, asked.few, length-map-up_from (length_at s) (s.count - k) k));
     })
 
     room_as : path_room (length ls) ≡ path_room np
-    room_as = ap path_room stands.same-ls
+    room_as = ap path_room stands.same_ls
 
     module _ {r : Noted} {ls' ms' us' : List ℕ} (listed : ListedNext o' x r ls ls' ms ms' us us') where
       one_more : (r.refusal ≡ 0 → ⊥) → OneTooMany np (for_each (next k ∷ last k) o)
@@ -115,7 +115,7 @@ module _ (o : Order) (s : Shorter) (es : List Event) (n : ℕ) (table plain work
           let h = listed.inside z in
           let fine = stands.inside (elim (ℕ_discrete x.refusal 0) [ yes q ↦ q | no y ↦ absurd (listed.stays y z) ]) in (
             (subst (λ (i : ℕ). length (paths o') ≤ i) room_as h.1.fits, fine.0),
-            ranked-more o fine.1 (divided-left o' may.order.code h.1) h.2,
+            ranked_more o fine.1 (divided_left o' may.order.code h.1) h.2,
           )
 
     pub after : (q : Order) → q ≡ o' → (r : Noted) (ls' ms' us' : List ℕ) → ListedNext q x r ls ls' ms ms' us us' → length ls' ≡ length table → length ms' ≡ length plain → length us' ≡ length work
@@ -126,16 +126,16 @@ module _ (o : Order) (s : Shorter) (es : List Event) (n : ℕ) (table plain work
           within = omega arith;
           past = λ nz. subst (λ (Ns : List ℕ). OneTooMany np (for_each Ns o)) (last_more k more) (one_more listed nz);
           inside = λ z. let h = all_more listed z in (subst (λ (Ns : List ℕ). AllFit np (for_each Ns o)) (last_more k more) h.0, subst (λ (Ns : List ℕ). Ranked o Ns r.firsts) (last_more k more) h.1);
-          zeros = listed.zeros ∙ cleared_as us work stands.same-us;
-          same-ls = kl;
+          zeros = listed.zeros ∙ cleared_as us work stands.same_us;
+          same_ls = kl;
           same_ms = km;
-          same-us = ku;
+          same_us = ku;
         }
 
   pub ended : {k : ℕ} {x : Noted} {ls ms us : List ℕ} → Stands k x ls ms us → s.count ≤ k → ListedShorter o s x table work us
   ended {k} {x} {ls} {ms} {us} stands h =
       let w = stands.within in
-      let all : last k ≡ shorter_in s = last-all k (omega arith) in
+      let all : last k ≡ shorter_in s = last_all k (omega arith) in
       record {
         past = λ nz. subst (λ (Ns : List ℕ). OneTooMany np (for_each Ns o)) all (stands.past nz);
         inside = λ z. let f = stands.inside z in (subst (λ (Ns : List ℕ). AllFit np (for_each Ns o)) all f.0, subst (λ (Ns : List ℕ). Ranked o Ns x.firsts) all f.1);

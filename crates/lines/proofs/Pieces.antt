@@ -9,7 +9,7 @@ use lib.ListN.{length, get_or, take}
 use lib.Seq.{take-suc}
 use Rattle.lists.specs.Lists.{up_from}
 use Rattle.lists.proofs.Lengths.{up_from_last}
-use Rattle.lists.proofs.Blocks.{flatMap-one, flatMap-append, flatMap-map}
+use Rattle.lists.proofs.Blocks.{flat_map_one, flat_map_append, flat_map_map}
 use Rattle.order.specs.Order.{of_weight}
 use Rattle.order.specs.declared.record.OrderRecord.{OrderRecord}
 use Rattle.lines.specs.Lines.{numeral, decimal, octal, hexadecimal, line, wORDER, w_a, wCRC, order_line, count_line, polynomial_line}
@@ -20,15 +20,15 @@ use Rattle.lines.specs.Model.Steps.{spaced}
 -- ---- blocks one after another: one more
 
 module _ (f : ℕ → List ℕ) where
-  pub list-more : (xs : List ℕ) (i : ℕ) → i < length xs → flat_map f (take (i + 1) xs) ≡ flat_map f (take i xs) ++ f (get_or xs i 0)
-  list-more xs i h =
-      ap (flat_map f) (ap (λ (k : ℕ). take k xs) (add-one i) ∙ take-suc xs i 0 h) ∙ flatMap-append f (take i xs) (get_or xs i 0 ∷ [])
-      ∙ ap (λ (l : List ℕ). flat_map f (take i xs) ++ l) (flatMap-one f (get_or xs i 0))
+  pub list_more : (xs : List ℕ) (i : ℕ) → i < length xs → flat_map f (take (i + 1) xs) ≡ flat_map f (take i xs) ++ f (get_or xs i 0)
+  list_more xs i h =
+      ap (flat_map f) (ap (λ (k : ℕ). take k xs) (add-one i) ∙ take-suc xs i 0 h) ∙ flat_map_append f (take i xs) (get_or xs i 0 ∷ [])
+      ∙ ap (λ (l : List ℕ). flat_map f (take i xs) ++ l) (flat_map_one f (get_or xs i 0))
 
-  pub range-more : (k : ℕ) → flat_map f (up_from 1 (k + 1)) ≡ flat_map f (up_from 1 k) ++ f (k + 1)
-  range-more k =
-      ap (flat_map f) (ap (up_from 1) (add-one k) ∙ up_from_last 1 k) ∙ flatMap-append f (up_from 1 k) ((1 + k) ∷ [])
-      ∙ ap (λ (l : List ℕ). flat_map f (up_from 1 k) ++ l) (flatMap-one f (1 + k) ∙ ap f one_last)
+  pub range_more : (k : ℕ) → flat_map f (up_from 1 (k + 1)) ≡ flat_map f (up_from 1 k) ++ f (k + 1)
+  range_more k =
+      ap (flat_map f) (ap (up_from 1) (add-one k) ∙ up_from_last 1 k) ∙ flat_map_append f (up_from 1 k) ((1 + k) ∷ [])
+      ∙ ap (λ (l : List ℕ). flat_map f (up_from 1 k) ++ l) (flat_map_one f (1 + k) ∙ ap f one_last)
     where
       one_last : 1 + k ≡ k + 1
       one_last = omega arith
@@ -37,7 +37,7 @@ module _ (f : ℕ → List ℕ) where
 
 pub decimal-line : (first numbers : List ℕ) → line first (map decimal numbers) ≡ first ++ (spaced 10 numbers ++ (10 ∷ []))
 unfolding line decimal spaced
-decimal-line first numbers = ap (λ (l : List ℕ). first ++ (l ++ (10 ∷ []))) (flatMap-map (λ w. 32 ∷ w) decimal numbers)
+decimal-line first numbers = ap (λ (l : List ℕ). first ++ (l ++ (10 ∷ []))) (flat_map_map (λ w. 32 ∷ w) decimal numbers)
 
 -- the line of weight k + 1, which is entry k
 pub count-line : (plain undetected : List ℕ) (k : ℕ) → line (65 ∷ []) (map decimal ((k + 1) ∷ get_or plain k 0 ∷ get_or undetected k 0 ∷ [])) ≡ count_line plain undetected (k + 1)
@@ -69,6 +69,6 @@ order-line o gs e h =
 
     words : flat_map (λ w. 32 ∷ w) (map decimal (numbers (length (order_in o).generators)) ++ map octal (order_in o).generators) ≡ spaced 10 (numbers o.n) ++ spaced 8 four
     words =
-        flatMap-append (λ w. 32 ∷ w) (map decimal (numbers (length (order_in o).generators))) (map octal (order_in o).generators)
-        ∙ ap₂ ◌++◌ (flatMap-map (λ w. 32 ∷ w) decimal (numbers (length (order_in o).generators)) ∙ ap (λ (n : ℕ). spaced 10 (numbers n)) (length-order_in o))
-        (flatMap-map (λ w. 32 ∷ w) octal (order_in o).generators ∙ ap (spaced 8) (sym own))
+        flat_map_append (λ w. 32 ∷ w) (map decimal (numbers (length (order_in o).generators))) (map octal (order_in o).generators)
+        ∙ ap₂ ◌++◌ (flat_map_map (λ w. 32 ∷ w) decimal (numbers (length (order_in o).generators)) ∙ ap (λ (n : ℕ). spaced 10 (numbers n)) (length-order_in o))
+        (flat_map_map (λ w. 32 ∷ w) octal (order_in o).generators ∙ ap (spaced 8) (sym own))

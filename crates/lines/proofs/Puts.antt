@@ -7,7 +7,7 @@ use mathlib.Core.Path.{◌≡◌, refl, sym, ap, ap₂, ◌∙◌, subst}
 use mathlib.Core.List.{List, [], ◌∷◌, ◌++◌}
 use lib.ListN.{length, set, length-append}
 use lib.Seq.{sets, length-sets}
-use Rattle.lists.proofs.Stores.{sets-append}
+use Rattle.lists.proofs.Stores.{sets_append}
 use Rattle.lines.specs.Lines.{digit, numeral}
 use Rattle.lines.specs.Model.Steps.{Put}
 use Rattle.lines.proofs.Numerals.{numeral_one, numeral_more}
@@ -34,13 +34,13 @@ put_same_length {l = l} {a = a} {at = at} p = ap length p.stored ∙ length-sets
 -- a second piece, behind the first
 pub joined : {m n : ℕ} {l l' l'' a b : List ℕ} {at middle end : ℕ} → Put m l at a l' middle → Put n l' middle b l'' end → Put (m + n) l at (a ++ b) l'' end
 joined {l = l} {a = a} {b = b} {at = at} p q =
-    record { stored = q.stored ∙ ap₂ (λ x k. sets x k b) p.stored p.next ∙ sym (sets-append l at a b); next = omega (arith, length-append a b, p.next, q.next); short = omega (arith, length-append a b, p.short, q.short) }
+    record { stored = q.stored ∙ ap₂ (λ x k. sets x k b) p.stored p.next ∙ sym (sets_append l at a b); next = omega (arith, length-append a b, p.next, q.next); short = omega (arith, length-append a b, p.short, q.short) }
 
 -- ---- digits
 
 module _ {base x : ℕ} where
-  pub one-digit : x < base → length (numeral base x) ≡ 1
-  one-digit h = ap length (numeral_one base x h)
+  pub one_digit : x < base → length (numeral base x) ≡ 1
+  one_digit h = ap length (numeral_one base x h)
 
   pub put_one : (l : List ℕ) (at : ℕ) {r : ℕ} → x < base → r ≡ digit x → Put (length (numeral base x)) l at (numeral base x) (set l at r) (at + 1)
   put_one l at h e = put_most _ (put_as (sym (numeral_one base x h)) (put_byte l at _ e)) (le_refl _)

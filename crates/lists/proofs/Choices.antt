@@ -20,43 +20,43 @@ pub eqb_differs : (m n : ℕ) → T (not (eqb m n)) → m ≢ n
 eqb_differs m n t e = T_not (eqb m n) t (eqb_passes m n e)
 
 module _ {A : Type 0} where
-  pub cond-true : (b : Bool) (x y : A) → T b → cond b x y ≡ x
-  cond-true true x y t = refl
-  cond-true false x y t = absurd t
+  pub cond_true : (b : Bool) (x y : A) → T b → cond b x y ≡ x
+  cond_true true x y t = refl
+  cond_true false x y t = absurd t
 
-  pub cond-false : (b : Bool) (x y : A) → T (not b) → cond b x y ≡ y
-  cond-false true x y t = absurd t
-  cond-false false x y t = refl
+  pub cond_false : (b : Bool) (x y : A) → T (not b) → cond b x y ≡ y
+  cond_false true x y t = absurd t
+  cond_false false x y t = refl
 
   -- what is chosen agrees
-  pub cond-cong-on : (b : Bool) (x x' y y' : A) → (T b → x ≡ x') → (T (not b) → y ≡ y') → cond b x y ≡ cond b x' y'
-  cond-cong-on true x x' y y' p q = p tt
-  cond-cong-on false x x' y y' p q = q tt
+  pub cond_cong_on : (b : Bool) (x x' y y' : A) → (T b → x ≡ x') → (T (not b) → y ≡ y') → cond b x y ≡ cond b x' y'
+  cond_cong_on true x x' y y' p q = p tt
+  cond_cong_on false x x' y y' p q = q tt
 
-  pub mem-choice : (b : Bool) {x : A} (l k : List A) → Memᴰ x (cond b l k) → (T b × Memᴰ x l) ⊎ (T (not b) × Memᴰ x k)
-  mem-choice true l k m = inl (tt, m)
-  mem-choice false l k m = inr (tt, m)
+  pub mem_choice : (b : Bool) {x : A} (l k : List A) → Memᴰ x (cond b l k) → (T b × Memᴰ x l) ⊎ (T (not b) × Memᴰ x k)
+  mem_choice true l k m = inl (tt, m)
+  mem_choice false l k m = inr (tt, m)
 
   -- a list behind a test
-  pub of-guarded : (b : Bool) {x : A} (l : List A) → Memᴰ x (cond b l []) → T b × Memᴰ x l
-  of-guarded true l m = (tt, m)
-  of-guarded false l m = absurd (Memᴰ.not-nil m)
+  pub of_guarded : (b : Bool) {x : A} (l : List A) → Memᴰ x (cond b l []) → T b × Memᴰ x l
+  of_guarded true l m = (tt, m)
+  of_guarded false l m = absurd (Memᴰ.not-nil m)
 
-  pub in-first : (b : Bool) {x : A} (l k : List A) → T b → Memᴰ x l → Memᴰ x (cond b l k)
-  in-first true l k t m = m
-  in-first false l k t m = absurd t
+  pub in_first : (b : Bool) {x : A} (l k : List A) → T b → Memᴰ x l → Memᴰ x (cond b l k)
+  in_first true l k t m = m
+  in_first false l k t m = absurd t
 
-  pub in-second : (b : Bool) {x : A} (l k : List A) → T (not b) → Memᴰ x k → Memᴰ x (cond b l k)
-  in-second true l k t m = absurd t
-  in-second false l k t m = m
+  pub in_second : (b : Bool) {x : A} (l k : List A) → T (not b) → Memᴰ x k → Memᴰ x (cond b l k)
+  in_second true l k t m = absurd t
+  in_second false l k t m = m
 
-  pub flatMap-cond : {B : Type 0} (f : A → List B) (b : Bool) (l k : List A) → flat_map f (cond b l k) ≡ cond b (flat_map f l) (flat_map f k)
-  flatMap-cond f true l k = refl
-  flatMap-cond f false l k = refl
+  pub flat_map_cond : {B : Type 0} (f : A → List B) (b : Bool) (l k : List A) → flat_map f (cond b l k) ≡ cond b (flat_map f l) (flat_map f k)
+  flat_map_cond f true l k = refl
+  flat_map_cond f false l k = refl
 
   pub choice-sorted : (R : A → A → Type 0) (b : Bool) (l k : List A) → Sorted R l → Sorted R k → Sorted R (cond b l k)
   choice-sorted R true l k s t = s
   choice-sorted R false l k s t = t
 
-  pub guarded-sorted : (R : A → A → Type 0) (b : Bool) (l : List A) → Sorted R l → Sorted R (cond b l [])
-  guarded-sorted R b l s = choice-sorted R b l [] s tt
+  pub guarded_sorted : (R : A → A → Type 0) (b : Bool) (l : List A) → Sorted R l → Sorted R (cond b l [])
+  guarded_sorted R b l s = choice-sorted R b l [] s tt

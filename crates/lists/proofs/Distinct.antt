@@ -23,11 +23,11 @@ increasing_distinct = sorted_weaken ◌<◌ (λ x y. x ≢ y) (λ x y h e. omega
 
 module _ {A : Type 0} where
   -- the image of a list without repeats, where no two members have the same image
-  pub map-distinct-on : {B : Type 0} (f : A → B) (xs : List A) → Distinct xs
+  pub map_distinct_on : {B : Type 0} (f : A → B) (xs : List A) → Distinct xs
       → ((x y : A) → Memᴰ x xs → Memᴰ y xs → f x ≡ f y → x ≡ y) → Distinct (map f xs)
-  map-distinct-on f [] s once = tt
-  map-distinct-on f (x ∷ xs) s once =
-      let rest = map-distinct-on f xs s.1 (λ y z m n. once y z (Memᴰ.tail m) (Memᴰ.tail n)) in
+  map_distinct_on f [] s once = tt
+  map_distinct_on f (x ∷ xs) s once =
+      let rest = map_distinct_on f xs s.1 (λ y z m n. once y z (Memᴰ.tail m) (Memᴰ.tail n)) in
       (λ y m e. let h = Memᴰ.of_map f xs m in s.0 h.0 h.1 (once x h.0 (Memᴰ.head refl) (Memᴰ.tail h.1) (e ∙ sym h.2)), rest)
 
   -- the list with one member taken out
@@ -50,15 +50,15 @@ module _ {A : Type 0} where
           record { rest = z ∷ w.rest; shorter = ap suc w.shorter; others = others }
 
   -- without repeats, and all members in k: no longer than k
-  pub distinct-length-le : (l k : List A) → Distinct l → Within l k → length l ≤ length k
-  distinct-length-le [] k s w = omega arith
-  distinct-length-le (x ∷ xs) k s w =
+  pub distinct_length_le : (l k : List A) → Distinct l → Within l k → length l ≤ length k
+  distinct_length_le [] k s w = omega arith
+  distinct_length_le (x ∷ xs) k s w =
       let taken = without k (w x (Memᴰ.head refl)) in
-      let below = distinct-length-le xs taken.rest s.1 (λ y m. taken.others y (w y (Memᴰ.tail m)) (λ e. s.0 y m (sym e))) in
+      let below = distinct_length_le xs taken.rest s.1 (λ y m. taken.others y (w y (Memᴰ.tail m)) (λ e. s.0 y m (sym e))) in
       omega (arith, taken.shorter)
 
-  pub distinct-same-length : (l k : List A) → Distinct l → Distinct k → Within l k → Within k l → length l ≡ length k
-  distinct-same-length l k s t w u =
-      let below = distinct-length-le l k s w in
-      let above = distinct-length-le k l t u in
+  pub distinct_same_length : (l k : List A) → Distinct l → Distinct k → Within l k → Within k l → length l ≡ length k
+  distinct_same_length l k s t w u =
+      let below = distinct_length_le l k s w in
+      let above = distinct_length_le k l t u in
       omega arith

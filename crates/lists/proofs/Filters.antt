@@ -12,7 +12,7 @@ use mathlib.Core.List.{List, [], ◌∷◌, ◌++◌, map, flat_map, Memᴰ}
 use lib.Dec.{T}
 use lib.ListN.{length}
 use Rattle.lists.specs.Lists.{up_from, filter, count, all}
-use Rattle.lists.proofs.Lengths.{length-filter-le, length-up_from, up_from_last}
+use Rattle.lists.proofs.Lengths.{length-filter_le, length-up_from, up_from_last}
 
 -- ---- which pass
 
@@ -27,12 +27,12 @@ module _ {A : Type 0} (f : A → Bool) where
       kept true e = ap (λ (l : List A). x ∷ l) e
       kept false e = e
 
-  pub filter-cong-on : (g : A → Bool) (xs : List A) → ((x : A) → Memᴰ x xs → f x ≡ g x) → filter f xs ≡ filter g xs
+  pub filter_cong_on : (g : A → Bool) (xs : List A) → ((x : A) → Memᴰ x xs → f x ≡ g x) → filter f xs ≡ filter g xs
   unfolding filter
-  filter-cong-on g [] same = refl
-  filter-cong-on g (x ∷ xs) same =
+  filter_cong_on g [] same = refl
+  filter_cong_on g (x ∷ xs) same =
       ap₂ (λ (b : Bool) (rest : List A). cond b (x ∷ rest) rest) (same x (Memᴰ.head refl))
-      (filter-cong-on g xs (λ y m. same y (Memᴰ.tail m)))
+      (filter_cong_on g xs (λ y m. same y (Memᴰ.tail m)))
 
   pub filter_map : {B : Type 0} (g : B → A) (xs : List B) → filter f (map g xs) ≡ map g (filter (λ x. f (g x)) xs)
   unfolding filter
@@ -44,9 +44,9 @@ module _ {A : Type 0} (f : A → Bool) where
       either true e = ap (λ (l : List A). g x ∷ l) e
       either false e = e
 
-  pub filter-one : (x : A) (b : Bool) → f x ≡ b → filter f (x ∷ []) ≡ cond b (x ∷ []) []
+  pub filter_one : (x : A) (b : Bool) → f x ≡ b → filter f (x ∷ []) ≡ cond b (x ∷ []) []
   unfolding filter
-  filter-one x b e = ap (λ (c : Bool). cond c (x ∷ []) []) e
+  filter_one x b e = ap (λ (c : Bool). cond c (x ∷ []) []) e
 
   pub filter-all : (xs : List A) → ((x : A) → f x ≡ true) → filter f xs ≡ xs
   unfolding filter
@@ -89,20 +89,20 @@ module _ {A : Type 0} where
   kept true x rest = omega arith
   kept false x rest = omega arith
 
-  pub count-cons : (f : A → Bool) (x : A) (xs : List A) → count f (x ∷ xs) ≡ cond (f x) 1 0 + count f xs
+  pub count_cons : (f : A → Bool) (x : A) (xs : List A) → count f (x ∷ xs) ≡ cond (f x) 1 0 + count f xs
   unfolding count filter
-  count-cons f x xs = kept (f x) x (filter f xs)
+  count_cons f x xs = kept (f x) x (filter f xs)
 
   pub count_none : (f : A → Bool) → count f [] ≡ 0
   unfolding count filter
   count_none f = refl
 
-  pub count-one : (f : A → Bool) (x : A) → count f (x ∷ []) ≡ cond (f x) 1 0
-  count-one f x = omega (arith, count-cons f x [], count_none f)
+  pub count_one : (f : A → Bool) (x : A) → count f (x ∷ []) ≡ cond (f x) 1 0
+  count_one f x = omega (arith, count_cons f x [], count_none f)
 
   pub count-append : (f : A → Bool) (xs ys : List A) → count f (xs ++ ys) ≡ count f xs + count f ys
   count-append f [] ys = omega (arith, count_none f)
-  count-append f (x ∷ xs) ys = let r = count-append f xs ys in omega (arith, count-cons f x (xs ++ ys), count-cons f x xs)
+  count-append f (x ∷ xs) ys = let r = count-append f xs ys in omega (arith, count_cons f x (xs ++ ys), count_cons f x xs)
 
   -- both tests at once
   pub count-filter : (f g : A → Bool) (xs : List A) → count f (filter g xs) ≡ count (λ x. g x && f x) xs
@@ -113,7 +113,7 @@ pub count_map : {A B : Type 0} (f : B → Bool) (g : A → B) (xs : List A) → 
 unfolding count filter
 count_map f g [] = refl
 count_map f g (x ∷ xs) =
-    count-cons f (g x) (map g xs) ∙ ap (λ (n : ℕ). cond (f (g x)) 1 0 + n) (count_map f g xs) ∙ sym (count-cons (λ y. f (g y)) x xs)
+    count_cons f (g x) (map g xs) ∙ ap (λ (n : ℕ). cond (f (g x)) 1 0 + n) (count_map f g xs) ∙ sym (count_cons (λ y. f (g y)) x xs)
 
 -- ---- how many of the places from a to before b
 
@@ -130,13 +130,13 @@ module _ (f : ℕ → Bool) where
       let e : k + 1 - a ≡ suc (k - a) = omega arith in
       let g : a + (k - a) ≡ k = omega arith in
       ap (λ (n : ℕ). count f (up_from a n)) e ∙ ap (count f) (up_from_last a (k - a)) ∙ count-append f (up_from a (k - a)) ((a + (k - a)) ∷ [])
-      ∙ ap (λ (n : ℕ). between f a k + n) (count-one f (a + (k - a)) ∙ ap (λ (n : ℕ). cond (f n) 1 0) g)
+      ∙ ap (λ (n : ℕ). between f a k + n) (count_one f (a + (k - a)) ∙ ap (λ (n : ℕ). cond (f n) 1 0) g)
 
-  pub between-mono : (a k b : ℕ) → a ≤ k → k ≤ b → between f a k ≤ between f a b
-  between-mono a k b h l =
+  pub between_mono : (a k b : ℕ) → a ≤ k → k ≤ b → between f a k ≤ between f a b
+  between_mono a k b h l =
       le_ind (λ (j : ℕ). between f a k ≤ between f a j) (le_refl (between f a k))
       (λ j g e. let n = between_next a j (omega arith) in let s = ap (between f a) (add-one j) in omega arith) b l
 
   pub between_le : (a b : ℕ) → between f a b ≤ b - a
   unfolding count
-  between_le a b = omega (arith, length-filter-le f (up_from a (b - a)), length-up_from a (b - a))
+  between_le a b = omega (arith, length-filter_le f (up_from a (b - a)), length-up_from a (b - a))

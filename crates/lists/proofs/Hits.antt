@@ -27,9 +27,9 @@ module _ (f : ℕ → ℕ) where
   one_more : (P : ℕ → Type 0) (k : ℕ) → ((t : ℕ) → t ≤ k → P t) → P (suc k) → (t : ℕ) → t ≤ suc k → P t
   one_more P k before here t h = elim (ℕ_discrete t (suc k)) [ yes e ↦ subst P (sym e) here | no n ↦ before t (omega arith) ]
 
-  hit-or-none : (i k : ℕ) → FirstHit f i k ⊎ ((t : ℕ) → t ≤ k → 1 ≤ t → f t ≢ i)
-  hit-or-none i zero = inr (λ t h l. absurd (omega arith))
-  hit-or-none i (suc k) = ⊎_elim (λ h. inl (longer h)) (λ none. next none (ℕ_discrete (f (suc k)) i)) (hit-or-none i k)
+  hit_or_none : (i k : ℕ) → FirstHit f i k ⊎ ((t : ℕ) → t ≤ k → 1 ≤ t → f t ≢ i)
+  hit_or_none i zero = inr (λ t h l. absurd (omega arith))
+  hit_or_none i (suc k) = ⊎_elim (λ h. inl (longer h)) (λ none. next none (ℕ_discrete (f (suc k)) i)) (hit_or_none i k)
     where
       longer : FirstHit f i k → FirstHit f i (suc k)
       longer h =
@@ -41,14 +41,14 @@ module _ (f : ℕ → ℕ) where
           inl (record { at = suc k; positive = omega arith; within = omega arith; hits = e; none_before = λ t l h. none t (omega arith) l })
       next none (no n) = inr (one_more (λ t. 1 ≤ t → f t ≢ i) k none (λ _. n))
 
-  pub first-hit : (i k : ℕ) → 1 ≤ k → f k ≡ i → FirstHit f i k
-  first-hit i k l e = ⊎_elim (λ h. h) (λ none. absurd (none k (omega arith) l e)) (hit-or-none i k)
+  pub first_hit : (i k : ℕ) → 1 ≤ k → f k ≡ i → FirstHit f i k
+  first_hit i k l e = ⊎_elim (λ h. h) (λ none. absurd (none k (omega arith) l e)) (hit_or_none i k)
 
-  pub last-least : (n : ℕ) → LastLeast f (suc n)
-  last-least zero =
+  pub last_least : (n : ℕ) → LastLeast f (suc n)
+  last_least zero =
       let same : (t : ℕ) → 1 ≤ t → t ≤ 1 → f 1 ≤ f t = λ t l h. let e : 1 ≡ t = omega arith in subst (λ x. f 1 ≤ f x) e (omega arith) in
       record { at = 1; positive = omega arith; within = omega arith; least = same; less_after = λ t l h. absurd (omega arith) }
-  last-least (suc n) = next (last-least n)
+  last_least (suc n) = next (last_least n)
     where
       replaced : (p : LastLeast f (suc n)) → f (suc (suc n)) ≤ f p.at → LastLeast f (suc (suc n))
       replaced p h =

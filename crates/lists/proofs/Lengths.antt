@@ -40,47 +40,47 @@ pub length-map-up_from : {A : Type 0} (f : ℕ → A) (n k : ℕ) → length (ma
 length-map-up_from f n k = length-map (up_from n k) f ∙ length-up_from n k
 
 module _ {A : Type 0} where
-  kept-length : (b : Bool) (x : A) (rest : List A) → length (cond b (x ∷ rest) rest) ≤ suc (length rest)
-  kept-length true x rest = omega arith
-  kept-length false x rest = omega arith
+  kept_length : (b : Bool) (x : A) (rest : List A) → length (cond b (x ∷ rest) rest) ≤ suc (length rest)
+  kept_length true x rest = omega arith
+  kept_length false x rest = omega arith
 
-  pub length-filter-le : (f : A → Bool) (xs : List A) → length (filter f xs) ≤ length xs
+  pub length-filter_le : (f : A → Bool) (xs : List A) → length (filter f xs) ≤ length xs
   unfolding filter
-  length-filter-le f [] = omega arith
-  length-filter-le f (x ∷ xs) =
-      let r = length-filter-le f xs in
-      let k = kept-length (f x) x (filter f xs) in
+  length-filter_le f [] = omega arith
+  length-filter_le f (x ∷ xs) =
+      let r = length-filter_le f xs in
+      let k = kept_length (f x) x (filter f xs) in
       omega arith
 
-  kept-mono : (b c : Bool) → (T b → T c) → (x : A) (l k : List A) → length l ≤ length k → length (cond b (x ∷ l) l) ≤ length (cond c (x ∷ k) k)
-  kept-mono true true h x l k le = omega arith
-  kept-mono true false h x l k le = absurd (h tt)
-  kept-mono false true h x l k le = omega arith
-  kept-mono false false h x l k le = le
+  kept_mono : (b c : Bool) → (T b → T c) → (x : A) (l k : List A) → length l ≤ length k → length (cond b (x ∷ l) l) ≤ length (cond c (x ∷ k) k)
+  kept_mono true true h x l k le = omega arith
+  kept_mono true false h x l k le = absurd (h tt)
+  kept_mono false true h x l k le = omega arith
+  kept_mono false false h x l k le = le
 
   -- what passes f passes g: no more pass f
-  pub length-filter-mono : (f g : A → Bool) → ((x : A) → T (f x) → T (g x)) → (xs : List A) → length (filter f xs) ≤ length (filter g xs)
+  pub length-filter_mono : (f g : A → Bool) → ((x : A) → T (f x) → T (g x)) → (xs : List A) → length (filter f xs) ≤ length (filter g xs)
   unfolding filter
-  length-filter-mono f g h [] = omega arith
-  length-filter-mono f g h (x ∷ xs) = kept-mono (f x) (g x) (h x) x (filter f xs) (filter g xs) (length-filter-mono f g h xs)
+  length-filter_mono f g h [] = omega arith
+  length-filter_mono f g h (x ∷ xs) = kept_mono (f x) (g x) (h x) x (filter f xs) (filter g xs) (length-filter_mono f g h xs)
 
-  pub length-flatMap : {B : Type 0} (f : A → List B) (xs : List A) → length (flat_map f xs) ≡ total (map (λ x. length (f x)) xs)
+  pub length_flat_map : {B : Type 0} (f : A → List B) (xs : List A) → length (flat_map f xs) ≡ total (map (λ x. length (f x)) xs)
   unfolding flat_map total
-  length-flatMap f [] = refl
-  length-flatMap f (x ∷ xs) = let r = length-flatMap f xs in omega (arith, length-append (f x) (flat_map f xs))
+  length_flat_map f [] = refl
+  length_flat_map f (x ∷ xs) = let r = length_flat_map f xs in omega (arith, length-append (f x) (flat_map f xs))
 
   pub length-padded : (n : ℕ) (z : A) (xs : List A) → length xs ≤ n → length (padded n z xs) ≡ n
   unfolding padded
   length-padded n z xs h = omega (arith, length-append xs (replicate (n - length xs) z), length-replicate (n - length xs) z)
 
   -- the list itself, then the filler
-  pub getD-padded-inside : (n : ℕ) (z : A) (xs : List A) (i : ℕ) (d : A) → i < length xs → get_or (padded n z xs) i d ≡ get_or xs i d
+  pub get_or-padded_inside : (n : ℕ) (z : A) (xs : List A) (i : ℕ) (d : A) → i < length xs → get_or (padded n z xs) i d ≡ get_or xs i d
   unfolding padded
-  getD-padded-inside n z xs i d h = get_or-append xs (replicate (n - length xs) z) d i h
+  get_or-padded_inside n z xs i d h = get_or-append xs (replicate (n - length xs) z) d i h
 
-  pub getD-padded-after : (n : ℕ) (z : A) (xs : List A) (i : ℕ) (d : A) → length xs ≤ i → i < n → get_or (padded n z xs) i d ≡ z
+  pub get_or-padded_after : (n : ℕ) (z : A) (xs : List A) (i : ℕ) (d : A) → length xs ≤ i → i < n → get_or (padded n z xs) i d ≡ z
   unfolding padded
-  getD-padded-after n z xs i d h l =
+  get_or-padded_after n z xs i d h l =
       ap (λ j. get_or (xs ++ replicate (n - length xs) z) j d) place ∙ get_or-append-add xs (replicate (n - length xs) z) (i - length xs) d
       ∙ get_or-replicate (n - length xs) (i - length xs) z d (omega arith)
     where
@@ -134,20 +134,20 @@ up_from-append x (suc n) m =
 -- ---- read at any place
 
 module _ {A : Type 0} (z : A) where
-  pub getD-fill : (n i : ℕ) → get_or (replicate n z) i z ≡ z
-  getD-fill zero i = refl
-  getD-fill (suc n) zero = refl
-  getD-fill (suc n) (suc i) = getD-fill n i
+  pub get_or_fill : (n i : ℕ) → get_or (replicate n z) i z ≡ z
+  get_or_fill zero i = refl
+  get_or_fill (suc n) zero = refl
+  get_or_fill (suc n) (suc i) = get_or_fill n i
 
   -- past its end a list reads as the filler, so a filler behind it changes nothing
-  getD-filled : (xs : List A) (n i : ℕ) → get_or (xs ++ replicate n z) i z ≡ get_or xs i z
-  getD-filled [] n i = getD-fill n i
-  getD-filled (x ∷ xs) n zero = refl
-  getD-filled (x ∷ xs) n (suc i) = getD-filled xs n i
+  get_or-filled : (xs : List A) (n i : ℕ) → get_or (xs ++ replicate n z) i z ≡ get_or xs i z
+  get_or-filled [] n i = get_or_fill n i
+  get_or-filled (x ∷ xs) n zero = refl
+  get_or-filled (x ∷ xs) n (suc i) = get_or-filled xs n i
 
-  pub getD-padded : (n : ℕ) (xs : List A) (i : ℕ) → get_or (padded n z xs) i z ≡ get_or xs i z
+  pub get_or-padded : (n : ℕ) (xs : List A) (i : ℕ) → get_or (padded n z xs) i z ≡ get_or xs i z
   unfolding padded
-  getD-padded n xs i = getD-filled xs (n - length xs) i
+  get_or-padded n xs i = get_or-filled xs (n - length xs) i
 
 -- what stands at the places of a block
 pub block_at : {A : Type 0} (z : A) (xs ys zs : List A) → map (λ k. get_or (xs ++ (ys ++ zs)) k z) (up_from (length xs) (length ys)) ≡ ys

@@ -28,23 +28,23 @@ module _ {A : Type 0} (f : A → Bool) (xs : List A) (d : A) where
   unfolding all
   all_end i h = ap (all f) (drop_of_length-le xs h)
 
-  pub any-end : (i : ℕ) → length xs ≤ i → any f (drop i xs) ≡ false
+  pub any_end : (i : ℕ) → length xs ≤ i → any f (drop i xs) ≡ false
   unfolding any
-  any-end i h = ap (any f) (drop_of_length-le xs h)
+  any_end i h = ap (any f) (drop_of_length-le xs h)
 
   -- one member decides
-  pub all-fails : (i : ℕ) → i < length xs → f (get_or xs i d) ≡ false → all f (drop i xs) ≡ false
-  all-fails i h e = all-next i h ∙ ap (λ (b : Bool). b && all f (drop (i + 1) xs)) e
+  pub all_fails : (i : ℕ) → i < length xs → f (get_or xs i d) ≡ false → all f (drop i xs) ≡ false
+  all_fails i h e = all-next i h ∙ ap (λ (b : Bool). b && all f (drop (i + 1) xs)) e
 
   pub any-passes : (i : ℕ) → i < length xs → f (get_or xs i d) ≡ true → any f (drop i xs) ≡ true
   any-passes i h e = any_next i h ∙ ap (λ (b : Bool). b || any f (drop (i + 1) xs)) e
 
   -- one member does not
-  pub all-goes-on : (i : ℕ) → i < length xs → f (get_or xs i d) ≡ true → all f (drop i xs) ≡ all f (drop (i + 1) xs)
-  all-goes-on i h e = all-next i h ∙ ap (λ (b : Bool). b && all f (drop (i + 1) xs)) e
+  pub all_goes_on : (i : ℕ) → i < length xs → f (get_or xs i d) ≡ true → all f (drop i xs) ≡ all f (drop (i + 1) xs)
+  all_goes_on i h e = all-next i h ∙ ap (λ (b : Bool). b && all f (drop (i + 1) xs)) e
 
-  pub any-goes-on : (i : ℕ) → i < length xs → f (get_or xs i d) ≡ false → any f (drop i xs) ≡ any f (drop (i + 1) xs)
-  any-goes-on i h e = any_next i h ∙ ap (λ (b : Bool). b || any f (drop (i + 1) xs)) e
+  pub any_goes_on : (i : ℕ) → i < length xs → f (get_or xs i d) ≡ false → any f (drop i xs) ≡ any f (drop (i + 1) xs)
+  any_goes_on i h e = any_next i h ∙ ap (λ (b : Bool). b || any f (drop (i + 1) xs)) e
 
 -- where all pass, each does
 pub all_at : {A : Type 0} (f : A → Bool) (xs : List A) (d : A) (i : ℕ) → all f xs ≡ true → i < length xs → f (get_or xs i d) ≡ true

@@ -18,16 +18,16 @@ drop-replicate z (suc k) (suc m) = drop-replicate z k m ∙ ap (λ (j : ℕ). re
 
 module _ {A : Type 0} where
   -- a second run, behind the first
-  pub sets-append : (l : List A) (i : ℕ) (xs ys : List A) → sets l i (xs ++ ys) ≡ sets (sets l i xs) (i + length xs) ys
-  sets-append l i [] ys = ap (λ (k : ℕ). sets l k ys) (sym (add-zero i))
-  sets-append l i (x ∷ xs) ys =
-      sets-append (set l i x) (suc i) xs ys
+  pub sets_append : (l : List A) (i : ℕ) (xs ys : List A) → sets l i (xs ++ ys) ≡ sets (sets l i xs) (i + length xs) ys
+  sets_append l i [] ys = ap (λ (k : ℕ). sets l k ys) (sym (add-zero i))
+  sets_append l i (x ∷ xs) ys =
+      sets_append (set l i x) (suc i) xs ys
       ∙ ap (λ (k : ℕ). sets (sets (set l i x) (suc i) xs) k ys) (suc-add i (length xs) ∙ sym (add-suc i (length xs)))
 
   -- a run at the front of a cleared list, and the filler after it
-  pub sets-cleared : (n : ℕ) (z : A) (xs : List A) → length xs ≤ n → sets (replicate n z) 0 xs ≡ padded n z xs
+  pub sets_cleared : (n : ℕ) (z : A) (xs : List A) → length xs ≤ n → sets (replicate n z) 0 xs ≡ padded n z xs
   unfolding padded
-  sets-cleared n z xs h =
+  sets_cleared n z xs h =
       let room : 0 + length xs ≤ length (replicate n z) = subst (λ (k : ℕ). 0 + length xs ≤ k) (sym (length-replicate n z)) (omega arith) in
       sets-eq xs (replicate n z) 0 room
       ∙ ap (λ (r : List A). xs ++ r) (ap (λ (k : ℕ). drop k (replicate n z)) (zero-add (length xs)) ∙ drop-replicate z (length xs) n)
@@ -55,30 +55,30 @@ pub record Filled {A : Type 0} (v : A) (before now : List A) (i : ℕ) : Type 0 
   pub stored : now ≡ replicate i v ++ drop i before
 
 module _ {A : Type 0} {v : A} {before : List A} where
-  pub filled-begin : Filled v before before 0
-  filled-begin = record { within = zero-le; same_size = refl; stored = refl }
+  pub filled_begin : Filled v before before 0
+  filled_begin = record { within = zero-le; same_size = refl; stored = refl }
 
-  pub filled-again : {now : List A} {i : ℕ} → Filled v before now i → i < length before → Filled v before (set now i v) (i + 1)
-  filled-again {now} {i} f h = record {
+  pub filled_again : {now : List A} {i : ℕ} → Filled v before now i → i < length before → Filled v before (set now i v) (i + 1)
+  filled_again {now} {i} f h = record {
     within = omega arith;
     same_size = length-set now i v ∙ f.same_size;
     stored = ap (λ (l : List A). set l i v) f.stored ∙ filled_more i v before h;
   }
 
-  pub filled-end : {now : List A} {i : ℕ} → Filled v before now i → length before ≤ i → now ≡ replicate (length before) v
-  filled-end {now} {i} f h = let most = f.within in f.stored ∙ filled-all i v before (omega arith)
+  pub filled_end : {now : List A} {i : ℕ} → Filled v before now i → length before ≤ i → now ≡ replicate (length before) v
+  filled_end {now} {i} f h = let most = f.within in f.stored ∙ filled-all i v before (omega arith)
 
 -- ---- the images of a list, stored one by one from index at on
 
 module _ {A B : Type 0} (f : A → B) (gs : List A) (d : A) (l : List B) (at : ℕ) where
-  pub sets-map-more : (i : ℕ) (x : B) → i < length gs → x ≡ f (get_or gs i d) → set (sets l at (map f (take i gs))) (at + i) x ≡ sets l at (map f (take (i + 1) gs))
-  sets-map-more i x h e =
+  pub sets_map_more : (i : ℕ) (x : B) → i < length gs → x ≡ f (get_or gs i d) → set (sets l at (map f (take i gs))) (at + i) x ≡ sets l at (map f (take (i + 1) gs))
+  sets_map_more i x h e =
       let xs : List B = map f (take i gs) in
       let n : length xs ≡ i = length-map (take i gs) f ∙ length-take-le i gs (le_of_lt h) in
       ap (λ (k : ℕ). set (sets l at xs) (at + k) x) (sym n)
       ∙ ap (λ (y : B). set (sets l at xs) (at + length xs) y) e
-      ∙ sym (sets-append l at xs (f (get_or gs i d) ∷ []))
+      ∙ sym (sets_append l at xs (f (get_or gs i d) ∷ []))
       ∙ ap (sets l at) (sym (ap (map f) (ap (λ (k : ℕ). take k gs) (add-one i) ∙ take-suc gs i d h) ∙ map-append f (take i gs) (get_or gs i d ∷ [])))
 
-  pub sets-map-all : (i : ℕ) → length gs ≤ i → sets l at (map f (take i gs)) ≡ sets l at (map f gs)
-  sets-map-all i h = ap (λ (r : List A). sets l at (map f r)) (take_all i gs h)
+  pub sets_map-all : (i : ℕ) → length gs ≤ i → sets l at (map f (take i gs)) ≡ sets l at (map f gs)
+  sets_map-all i h = ap (λ (r : List A). sets l at (map f r)) (take_all i gs h)

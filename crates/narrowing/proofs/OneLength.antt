@@ -13,16 +13,16 @@ use lib.ListN.{length}
 use Rattle.lists.specs.Lists.{all, any}
 use Rattle.lists.proofs.Tests.{T_and, T_or, same_test}
 use Rattle.lists.proofs.Choices.{eqb_passes}
-use Rattle.lists.proofs.Filters.{filter-cong-on, filter-filter}
-use Rattle.lists.proofs.Member.{of-not-any, in-not-any}
+use Rattle.lists.proofs.Filters.{filter_cong_on, filter-filter}
+use Rattle.lists.proofs.Member.{of_not_any, in_not_any}
 use Rattle.order.specs.Order.{Order, with_length}
 use Rattle.undetected.specs.Undetected.{undetected_counts}
 use Rattle.undetected.specs.FirstUndetected.{first_above0, first_undetected}
-use Rattle.undetected.proofs.Undetected.{length-undetectedCounts}
+use Rattle.undetected.proofs.Undetected.{length-undetected_counts}
 use Rattle.undetected.proofs.FirstUndetected.{first_from, first_zero, first_some}
 use Rattle.choice.specs.Choice.{candidates, fewer, unbettered, best, first_of, choice_among, choice}
 use Rattle.narrowing.specs.Narrowed.{largest, narrowed, longest, set_choice}
-use Rattle.narrowing.proofs.Narrowed.{of-top, in_top, of-largest, in-largest}
+use Rattle.narrowing.proofs.Narrowed.{of_top, in_top, of_largest, in_largest}
 
 -- ---- first weights and fewer counts
 
@@ -79,30 +79,30 @@ module _ (counts : ℕ → List ℕ) (n : ℕ) (sized : (p : ℕ) → length (co
     abbrev stays : Bool
     stays = all (λ q. leb (value q) (value p)) ps
 
-    of-narrowed : T (stays && not (any better (largest value ps))) → T (not (any better ps))
-    of-narrowed t =
+    of_narrowed : T (stays && not (any better (largest value ps))) → T (not (any better ps))
+    of_narrowed t =
         let h = (T_and stays (not (any better (largest value ps)))).0 t in
         let kept : (q : ℕ) → Memᴰ q ps → T (better q) → Memᴰ q (largest value ps) =
-        λ q k f. in-largest value ps k (λ r j. omega (arith, of-top value ps p h.0 r j, fewer_later_first 1 (counts q) (counts p) f)) in
-        in-not-any better ps (λ q k. not_T (better q) (λ f. T_not (better q) (of-not-any better (largest value ps) h.1 q (kept q k f)) f))
+        λ q k f. in_largest value ps k (λ r j. omega (arith, of_top value ps p h.0 r j, fewer_later_first 1 (counts q) (counts p) f)) in
+        in_not_any better ps (λ q k. not_T (better q) (λ f. T_not (better q) (of_not_any better (largest value ps) h.1 q (kept q k f)) f))
 
-    in-narrowed : T (not (any better ps)) → T (stays && not (any better (largest value ps)))
-    in-narrowed t =
-        let none : (q : ℕ) → Memᴰ q ps → T (not (better q)) = of-not-any better ps t in
+    in_narrowed : T (not (any better ps)) → T (stays && not (any better (largest value ps)))
+    in_narrowed t =
+        let none : (q : ℕ) → Memᴰ q ps → T (not (better q)) = of_not_any better ps t in
         let top : (q : ℕ) → Memᴰ q ps → value q ≤ value p =
         λ q k. elim (dec_lt (value p) (value q)) [
           | yes l ↦ absurd (T_not (better q) (none q k) (later_first-fewer 1 (counts q) (counts p) (sized q ∙ sym (sized p)) l))
           | no g ↦ omega arith
         ] in
         (T_and stays (not (any better (largest value ps)))).1
-        (in_top value ps p top, in-not-any better (largest value ps) (λ q k. none q (of-largest value ps k).0))
+        (in_top value ps p top, in_not_any better (largest value ps) (λ q k. none q (of_largest value ps k).0))
 
   pub best-narrowed : best counts (largest value ps) ≡ best counts ps
   unfolding best largest unbettered
   best-narrowed =
       filter-filter (unbettered counts (largest value ps)) (λ p. all (λ q. leb (value q) (value p)) ps) ps
-      ∙ filter-cong-on (λ p. stays p && unbettered counts (largest value ps) p) (unbettered counts ps) ps
-      (λ p _. same_test _ _ (of-narrowed p) (in-narrowed p))
+      ∙ filter_cong_on (λ p. stays p && unbettered counts (largest value ps) p) (unbettered counts ps) ps
+      (λ p _. same_test _ _ (of_narrowed p) (in_narrowed p))
 
   pub choice-narrowed : choice_among counts (largest value ps) ≡ choice_among counts ps
   unfolding choice_among
@@ -111,4 +111,4 @@ module _ (counts : ℕ → List ℕ) (n : ℕ) (sized : (p : ℕ) → length (co
 pub one_length : (o : Order) (N : ℕ) → set_choice o (N ∷ []) ≡ choice (with_length N o)
 unfolding set_choice narrowed longest first_of choice first_undetected with_length
 one_length o N =
-    choice-narrowed (undetected_counts (with_length N o)) (o.d - 1) (length-undetectedCounts (with_length N o)) (candidates o.m)
+    choice-narrowed (undetected_counts (with_length N o)) (o.d - 1) (length-undetected_counts (with_length N o)) (candidates o.m)

@@ -1,5 +1,5 @@
--- Narrowing length by length keeps just those whose rank is largest (`narrowed-by-rank`): where low values stay below the base, narrowing by the high values
--- and then by the low ones is narrowing by both as one number (`largest-in-turn`).
+-- Narrowing length by length keeps just those whose rank is largest (`narrowed_by_rank`): where low values stay below the base, narrowing by the high values
+-- and then by the low ones is narrowing by both as one number (`largest_in_turn`).
 -- Assumes nothing.
 use Prim.Native.Nat.{ℕ, ◌+◌, ◌*◌, ◌^◌, ◌≤◌, ◌<◌}
 use native.Mathlib.Decide.{dec_lt}
@@ -12,13 +12,13 @@ use lib.Dec.{T, leb}
 use lib.ListN.{length}
 use Rattle.lists.specs.Lists.{all}
 use Rattle.lists.proofs.Tests.{T_and, same_test, true_of_T}
-use Rattle.lists.proofs.Filters.{filter-cong-on, filter-all, filter-filter}
+use Rattle.lists.proofs.Filters.{filter_cong_on, filter-all, filter-filter}
 use Rattle.order.specs.Order.{Order, with_length}
 use Rattle.undetected.specs.FirstUndetected.{first_undetected}
 use Rattle.undetected.proofs.FirstUndetected.{first_at_most}
 use Rattle.narrowing.specs.Narrowed.{largest, narrowed}
 use Rattle.narrowing.specs.Model.Firsts.{rank}
-use Rattle.narrowing.proofs.Narrowed.{Top, of-top, in_top, of-largest, in-largest}
+use Rattle.narrowing.proofs.Narrowed.{Top, of_top, in_top, of_largest, in_largest}
 
 -- ---- numbers of two digits
 
@@ -35,47 +35,47 @@ module _ (high low : ℕ → ℕ) (B : ℕ) (small : (p : ℕ) → low p < B) (p
 
   module _ (p : ℕ) where
     -- high digits first: nobody's is larger
-    high-top : Top both ps p → Top high ps p
-    high-top top q m = elim (dec_lt (high p) (high q)) [
+    high_top : Top both ps p → Top high ps p
+    high_top top q m = elim (dec_lt (high p) (high q)) [
       | yes h ↦ absurd (omega (arith, top q m, high_less B (high p) (high q) (low p) (small p) h))
       | no n ↦ omega arith
     ]
 
     -- then low digits, of those whose high digit is the same
-    low-top : Top both ps p → Memᴰ p ps → Top low kept p
-    low-top top member q m =
-        let k = of-largest high ps m in
-        let same : high q ≡ high p = omega (arith, k.1 p member, high-top top q k.0) in
+    low_top : Top both ps p → Memᴰ p ps → Top low kept p
+    low_top top member q m =
+        let k = of_largest high ps m in
+        let same : high q ≡ high p = omega (arith, k.1 p member, high_top top q k.0) in
         omega (arith, top q k.0, ap (λ (x : ℕ). x * B) same)
 
-    both-top : Top high ps p → Top low kept p → Top both ps p
-    both-top h l q m = elim (dec_lt (high q) (high p)) [
+    both_top : Top high ps p → Top low kept p → Top both ps p
+    both_top h l q m = elim (dec_lt (high q) (high p)) [
       | yes less ↦ omega (arith, high_less B (high q) (high p) (low q) (small q) less)
       | no n ↦
           let same : high q ≡ high p = omega (arith, h q m) in
-          omega (arith, ap (λ (x : ℕ). x * B) same, l q (in-largest high ps m (λ r j. omega (arith, h r j))))
+          omega (arith, ap (λ (x : ℕ). x * B) same, l q (in_largest high ps m (λ r j. omega (arith, h r j))))
     ]
 
-    abbrev top-high : Bool
-    top-high = all (λ q. leb (high q) (high p)) ps
+    abbrev top_high : Bool
+    top_high = all (λ q. leb (high q) (high p)) ps
 
-    abbrev top-low : Bool
-    top-low = all (λ q. leb (low q) (low p)) kept
+    abbrev top_low : Bool
+    top_low = all (λ q. leb (low q) (low p)) kept
 
-    of-both : Memᴰ p ps → T (all (λ q. leb (both q) (both p)) ps) → T (top-high && top-low)
-    of-both member t =
-        let top = of-top both ps p t in
-        (T_and top-high top-low).1 (in_top high ps p (high-top top), in_top low kept p (low-top top member))
+    of_both : Memᴰ p ps → T (all (λ q. leb (both q) (both p)) ps) → T (top_high && top_low)
+    of_both member t =
+        let top = of_top both ps p t in
+        (T_and top_high top_low).1 (in_top high ps p (high_top top), in_top low kept p (low_top top member))
 
-    in_both : T (top-high && top-low) → T (all (λ q. leb (both q) (both p)) ps)
+    in_both : T (top_high && top_low) → T (all (λ q. leb (both q) (both p)) ps)
     in_both t =
-        let h = (T_and top-high top-low).0 t in
-        in_top both ps p (both-top (of-top high ps p h.0) (of-top low kept p h.1))
+        let h = (T_and top_high top_low).0 t in
+        in_top both ps p (both_top (of_top high ps p h.0) (of_top low kept p h.1))
 
-  pub largest-in-turn : largest both ps ≡ largest low (largest high ps)
+  pub largest_in_turn : largest both ps ≡ largest low (largest high ps)
   unfolding largest
-  largest-in-turn =
-      filter-cong-on (λ p. all (λ q. leb (both q) (both p)) ps) _ ps (λ p m. same_test _ _ (of-both p m) (in_both p))
+  largest_in_turn =
+      filter_cong_on (λ p. all (λ q. leb (both q) (both p)) ps) _ ps (λ p m. same_test _ _ (of_both p m) (in_both p))
       ∙ sym (filter-filter (λ p. all (λ q. leb (low q) (low p)) kept) (λ p. all (λ q. leb (high q) (high p)) ps) ps)
 
 -- where all values are the same, everybody stays
@@ -94,9 +94,9 @@ module _ (o : Order) (some-d : 1 ≤ o.d) (few : o.d ≤ 64) where
       let most : first_undetected (with_length N o) p ≤ 64 = omega (arith, first_at_most (with_length N o) p some-d) in
       omega (arith, rank_below Ns p, mul-le-mul_right B most, pow-succ' 128 (length Ns))
 
-  pub narrowed-by-rank : (Ns ps : List ℕ) → narrowed o Ns ps ≡ largest (rank o Ns) ps
+  pub narrowed_by_rank : (Ns ps : List ℕ) → narrowed o Ns ps ≡ largest (rank o Ns) ps
   unfolding narrowed rank
-  narrowed-by-rank [] ps = sym (largest_level 0 ps)
-  narrowed-by-rank (N ∷ Ns) ps =
-      narrowed-by-rank Ns (largest (first_undetected (with_length N o)) ps)
-      ∙ sym (largest-in-turn (first_undetected (with_length N o)) (rank o Ns) (128 ^ length Ns) (rank_below Ns) ps)
+  narrowed_by_rank [] ps = sym (largest_level 0 ps)
+  narrowed_by_rank (N ∷ Ns) ps =
+      narrowed_by_rank Ns (largest (first_undetected (with_length N o)) ps)
+      ∙ sym (largest_in_turn (first_undetected (with_length N o)) (rank o Ns) (128 ^ length Ns) (rank_below Ns) ps)

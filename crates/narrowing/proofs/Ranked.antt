@@ -1,5 +1,5 @@
--- The numbers that the code keeps are the ranks: of no length (`ranked-none`), of one more (`ranked-more`), and those kept are the candidates that narrowing
--- leaves (`kept-narrowed`).
+-- The numbers that the code keeps are the ranks: of no length (`ranked_none`), of one more (`ranked_more`), and those kept are the candidates that narrowing
+-- leaves (`kept_narrowed`).
 -- Assumes nothing.
 use Prim.Native.Nat.{ℕ, ◌+◌, ◌-◌, ◌*◌, ◌^◌, ◌≤◌, ◌<◌}
 use native.Mathlib.Nat.{pow-succ', pow-le-pow_right}
@@ -10,8 +10,8 @@ use mathlib.Core.List.{List, [], ◌∷◌, map}
 use lib.Dec.{leb}
 use lib.ListN.{length, get_or}
 use Rattle.lists.specs.Lists.{up_from, all}
-use Rattle.lists.proofs.Filters.{filter-cong-on, filter_map, all-map-on}
-use Rattle.lists.proofs.Lengths.{getD-fill}
+use Rattle.lists.proofs.Filters.{filter_cong_on, filter_map, all-map-on}
+use Rattle.lists.proofs.Lengths.{get_or_fill}
 use Rattle.lists.proofs.Member.{up_from_bounds}
 use Rattle.order.specs.Order.{Order, with_length}
 use Rattle.undetected.specs.Undetected.{undetected_counts}
@@ -22,14 +22,14 @@ use Rattle.choice.specs.Model.Steps.{alive_below, offered_by, CheckDegree}
 use Rattle.narrowing.specs.Narrowed.{largest, narrowed}
 use Rattle.narrowing.specs.Model.Firsts.{rank, Ranked, NoFirsts, Added, Kept, ToAdd}
 use Rattle.narrowing.specs.declared.Firsts.{Firsts}
-use Rattle.narrowing.proofs.Rank.{rank_below, narrowed-by-rank}
+use Rattle.narrowing.proofs.Rank.{rank_below, narrowed_by_rank}
 
 module _ (o : Order) where
-  pub ranked-none : {r : Firsts} → NoFirsts r → Ranked o [] r
+  pub ranked_none : {r : Firsts} → NoFirsts r → Ranked o [] r
   unfolding rank
-  ranked-none none = record {
+  ranked_none none = record {
     worth = none.0;
-    each = λ k h. ap (λ (l : List ℕ). get_or l k 0) none.1 ∙ getD-fill 0 2048 k;
+    each = λ k h. ap (λ (l : List ℕ). get_or l k 0) none.1 ∙ get_or_fill 0 2048 k;
   }
 
   -- the order's own length is not looked at
@@ -38,13 +38,13 @@ module _ (o : Order) where
   rank-any N [] p = refl
   rank-any N (M ∷ Ns) p = ap (λ (r : ℕ). first_undetected (with_length M o) p * 128 ^ length Ns + r) (rank-any N Ns p)
 
-  pub ranked-any : (N : ℕ) {Ns : List ℕ} {f : Firsts} → Ranked o Ns f → Ranked (with_length N o) Ns f
+  pub ranked_any : (N : ℕ) {Ns : List ℕ} {f : Firsts} → Ranked o Ns f → Ranked (with_length N o) Ns f
   unfolding with_length
-  ranked-any N {Ns} ranked = record { worth = ranked.worth; each = λ k h. ranked.each k h ∙ rank-any N Ns (2 ^ o.m + 2 * k + 1) }
+  ranked_any N {Ns} ranked = record { worth = ranked.worth; each = λ k h. ranked.each k h ∙ rank-any N Ns (2 ^ o.m + 2 * k + 1) }
 
-  pub ranked-to-add : {Ns : List ℕ} {bits : ℕ} {table plain : List ℕ} {f : Firsts} → Ranked o Ns f → length Ns ≤ 7
+  pub ranked_to_add : {Ns : List ℕ} {bits : ℕ} {table plain : List ℕ} {f : Firsts} → Ranked o Ns f → length Ns ≤ 7
       → Readable bits (o.d - 1) table plain → CheckDegree o.m → 1 ≤ o.d → o.d ≤ 64 → ToAdd bits (o.d - 1) o.m table plain f
-  ranked-to-add {Ns} ranked seven readable degree some-d few = record {
+  ranked_to_add {Ns} ranked seven readable degree some-d few = record {
     readable = readable;
     degree = degree;
     few = omega arith;
@@ -53,11 +53,11 @@ module _ (o : Order) where
   }
 
   -- the counts over the table are the undetected counts at this length
-  pub ranked-more : {N : ℕ} {Ns : List ℕ} {table plain : List ℕ} {f g : Firsts} → Ranked o Ns f
+  pub ranked_more : {N : ℕ} {Ns : List ℕ} {table plain : List ℕ} {f g : Firsts} → Ranked o Ns f
       → ((p : ℕ) → divided_counts o.m table plain (o.d - 1) p ≡ undetected_counts (with_length N o) p)
       → Added o.m (o.d - 1) table plain f g → Ranked o (N ∷ Ns) g
   unfolding rank first_undetected
-  ranked-more {N} {Ns} ranked counted added = record {
+  ranked_more {N} {Ns} ranked counted added = record {
     worth = omega (arith, added.worth, ranked.worth, pow-succ' 128 (length Ns));
     each = λ k h.
         added.each k h
@@ -79,9 +79,9 @@ module _ (o : Order) where
         ∙ all-map-on (λ j. leb (get_or f.ranks j 0) (get_or f.ranks k 0)) (λ q. leb (rank o Ns q) (rank o Ns (name k))) name places
         (λ j m. ap₂ leb (ranked.each j (omega (arith, (up_from_bounds 0 (2 ^ (o.m - 1)) m).1))) (ranked.each k h))
 
-    pub kept-narrowed : 1 ≤ o.d → o.d ≤ 64 → offered_by o.m r ≡ narrowed o Ns (candidates o.m)
+    pub kept_narrowed : 1 ≤ o.d → o.d ≤ 64 → offered_by o.m r ≡ narrowed o Ns (candidates o.m)
     unfolding offered_by alive_below candidates largest
-    kept-narrowed some-d few =
-        ap (map name) (filter-cong-on (λ k. get_or r k false) _ places (λ k m. flag k (omega (arith, (up_from_bounds 0 (2 ^ (o.m - 1)) m).1))))
+    kept_narrowed some-d few =
+        ap (map name) (filter_cong_on (λ k. get_or r k false) _ places (λ k m. flag k (omega (arith, (up_from_bounds 0 (2 ^ (o.m - 1)) m).1))))
         ∙ sym (filter_map (λ p. all (λ q. leb (rank o Ns q) (rank o Ns p)) (map name places)) name places)
-        ∙ sym (narrowed-by-rank o some-d few Ns (map name places))
+        ∙ sym (narrowed_by_rank o some-d few Ns (map name places))

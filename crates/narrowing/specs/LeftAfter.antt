@@ -1,5 +1,5 @@
 -- What is promised of the polynomial for a set of lengths (document 02, C-17), without lists of candidates: who is left after the lengths, and `FirstBest`
--- among those. `set⇔best-of-set` (proofs/Narrowed.antt) proves that the choice is just this.
+-- among those. `set⇔best_of_set` (proofs/Narrowed.antt) proves that the choice is just this.
 -- Assumes nothing.
 use Rattle.std.specs.Prelude.{ℕ, ◌-◌, ◌≤◌, List, [], ◌∷◌}
 use Rattle.order.specs.Order.{Order, with_length}

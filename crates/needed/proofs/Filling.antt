@@ -11,7 +11,7 @@ use mathlib.Core.Logic.{◌≢◌}
 use mathlib.Core.List.{List}
 use lib.Dec.{T, leb, eqb, lit<, leb→le, le→leb, not_T}
 use lib.ListN.{length, get_or, set, length-set}
-use Rattle.lists.proofs.Choices.{cond-true, cond-false, eqb_passes, eqb_fails}
+use Rattle.lists.proofs.Choices.{cond_true, cond_false, eqb_passes, eqb_fails}
 use Rattle.poly.proofs.Shifts.{shl_one}
 use Rattle.code.specs.Trellis.{step_weight}
 use Rattle.code.specs.Model.Steps.{most_steps}
@@ -34,11 +34,11 @@ leb_fails m n h = not_T (leb m n) (λ t. let k = leb→le m n t in absurd (omega
 
 pub least_at_start : (work : List ℕ) (i t s : ℕ) → t ≡ 0 → s ≡ i → 0 ≡ least_to work i t s
 unfolding least_to
-least_at_start work i t s e q = subst (λ (x : ℕ). 0 ≡ least_to work i x s) (sym e) (sym (cond-true (eqb s i) 0 64 (eqb_passes s i q)))
+least_at_start work i t s e q = subst (λ (x : ℕ). 0 ≡ least_to work i x s) (sym e) (sym (cond_true (eqb s i) 0 64 (eqb_passes s i q)))
 
 pub least_off_start : (work : List ℕ) (i t s : ℕ) → t ≡ 0 → (s ≡ i → ⊥) → 64 ≡ least_to work i t s
 unfolding least_to
-least_off_start work i t s e q = subst (λ (x : ℕ). 64 ≡ least_to work i x s) (sym e) (sym (cond-false (eqb s i) 0 64 (eqb_fails s i q)))
+least_off_start work i t s e q = subst (λ (x : ℕ). 64 ≡ least_to work i x s) (sym e) (sym (cond_false (eqb s i) 0 64 (eqb_fails s i q)))
 
 later : (t : ℕ) → (t ≡ 0 → ⊥) → t ≡ suc (t - 1)
 later t h = elim (ℕ_discrete t 0) [ yes e ↦ absurd (h e) | no n ↦ omega arith ]
@@ -46,14 +46,14 @@ later t h = elim (ℕ_discrete t 0) [ yes e ↦ absurd (h e) | no n ↦ omega ar
 pub least_below : (work : List ℕ) (i t s : ℕ) → (t ≡ 0 → ⊥) → s ≤ i → 64 ≡ least_to work i t s
 unfolding least_to
 least_below work i t s n h =
-    subst (λ (x : ℕ). 64 ≡ least_to work i x s) (sym (later t n)) (sym (cond-true (leb s i) 64 _ (le→leb s i h)))
+    subst (λ (x : ℕ). 64 ≡ least_to work i x s) (sym (later t n)) (sym (cond_true (leb s i) 64 _ (le→leb s i h)))
 
 pub least_above : (work : List ℕ) (i t s : ℕ) → (t ≡ 0 → ⊥) → i < s
     → min 64 (min (through work (t - 1) (s / 2) (s % 2)) (through work (t - 1) (s / 2 + half_at work) (s % 2))) ≡ least_to work i t s
 unfolding least_to
 least_above work i t s n h =
     subst (λ (x : ℕ). min 64 (min (through work (t - 1) (s / 2) (s % 2)) (through work (t - 1) (s / 2 + half_at work) (s % 2))) ≡ least_to work i x s)
-    (sym (later t n)) (sym (cond-false (leb s i) 64 _ (leb_fails s i h)))
+    (sym (later t n)) (sym (cond_false (leb s i) 64 _ (leb_fails s i h)))
 
 cond_le : (b : Bool) (x y m : ℕ) → x ≤ m → y ≤ m → cond b x y ≤ m
 cond_le true x y m h k = h
@@ -247,11 +247,11 @@ weights_again gs x work work₀ w h e inv =
 
 pub turned-first : (words steps k : ℕ) (work : List ℕ) → k % steps ≡ 0 → rows_from (k / steps) words steps 0 (set work length_place (k % steps + 1)) ≡ turned words steps k work
 unfolding turned
-turned-first words steps k work e = sym (cond-true (eqb (k % steps) 0) (rows_from (k / steps) words steps 0 (set work length_place (k % steps + 1))) (set work length_place (k % steps + 1)) (eqb_passes (k % steps) 0 e))
+turned-first words steps k work e = sym (cond_true (eqb (k % steps) 0) (rows_from (k / steps) words steps 0 (set work length_place (k % steps + 1))) (set work length_place (k % steps + 1)) (eqb_passes (k % steps) 0 e))
 
 pub turned_later : (words steps k : ℕ) (work : List ℕ) → (k % steps ≡ 0 → ⊥) → set work length_place (k % steps + 1) ≡ turned words steps k work
 unfolding turned
-turned_later words steps k work n = sym (cond-false (eqb (k % steps) 0) (rows_from (k / steps) words steps 0 (set work length_place (k % steps + 1))) (set work length_place (k % steps + 1)) (eqb_fails (k % steps) 0 n))
+turned_later words steps k work n = sym (cond_false (eqb (k % steps) 0) (rows_from (k / steps) words steps 0 (set work length_place (k % steps + 1))) (set work length_place (k % steps + 1)) (eqb_fails (k % steps) 0 n))
 
 pub prepared_is : (gs : List ℕ) (v d : ℕ) (work last : List ℕ) → 1 ≤ v → v ≤ 8
     → last ≡ weights_from gs step_count 0 (set (set work threshold_place d) half_place (1 * 2 ^ (v - 1) % 2 ^ 64)) → last ≡ prepared gs v d work

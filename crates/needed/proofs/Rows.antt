@@ -34,24 +34,24 @@ unfolding need
 need-cong a b t s e = ap (λ (x : ℕ). x / 2 ^ (s % 8 * 8) % 256) e
 
 module _ (i : ℕ) (a b : List ℕ) (small : half_at a ≤ 128) where
-  through-cong : (t p x : ℕ) → Agree (suc t) a b → p < 256 → x < 2 → through a t p x ≡ through b t p x
+  through_cong : (t p x : ℕ) → Agree (suc t) a b → p < 256 → x < 2 → through a t p x ≡ through b t p x
   unfolding through
-  through-cong t p x same hp hx =
+  through_cong t p x same hp hx =
       ap₂ (λ (y z : ℕ). y + z) (need-cong a b t p (same.rows (t * row_words + p / 8) (omega arith))) (same.upper (steps_place + 2 * p + x) (omega arith) (λ e. absurd (omega arith)))
 
-  pub leastTo-cong : (t s : ℕ) → Agree t a b → s < 256 → least_to a i t s ≡ least_to b i t s
+  pub least_to_cong : (t s : ℕ) → Agree t a b → s < 256 → least_to a i t s ≡ least_to b i t s
   unfolding least_to
-  leastTo-cong zero s same h = refl
-  leastTo-cong (suc t) s same h =
-      ap₂ (λ (x y : ℕ). cond (leb s i) 64 (min 64 (min x y))) (through-cong t (s / 2) (s % 2) same (omega arith) (omega arith))
-      (through-cong t (s / 2 + half_at a) (s % 2) same (omega arith) (omega arith)
+  least_to_cong zero s same h = refl
+  least_to_cong (suc t) s same h =
+      ap₂ (λ (x y : ℕ). cond (leb s i) 64 (min 64 (min x y))) (through_cong t (s / 2) (s % 2) same (omega arith) (omega arith))
+      (through_cong t (s / 2 + half_at a) (s % 2) same (omega arith) (omega arith)
       ∙ ap (λ (x : ℕ). through b t (s / 2 + x) (s % 2)) (same.upper half_place (omega arith) (λ e. absurd (omega arith))))
 
-  pub packed-cong : (t n s : ℕ) → Agree t a b → s + n ≤ 256 → packed a i t n s ≡ packed b i t n s
+  pub packed_cong : (t n s : ℕ) → Agree t a b → s + n ≤ 256 → packed a i t n s ≡ packed b i t n s
   unfolding packed
-  packed-cong t zero s same h = refl
-  packed-cong t (suc n) s same h =
-      ap₂ (λ (x y : ℕ). x + 256 * y) (leastTo-cong t s same (omega arith)) (packed-cong t n (s + 1) same (omega arith))
+  packed_cong t zero s same h = refl
+  packed_cong t (suc n) s same h =
+      ap₂ (λ (x y : ℕ). x + 256 * y) (least_to_cong t s same (omega arith)) (packed_cong t n (s + 1) same (omega arith))
 
 -- ---- a byte of eight
 
@@ -77,10 +77,10 @@ packed_byte work i t (suc n) s (suc k) h =
     ∙ ap (least_to work i t) (later s k)
   where
     power : (x : ℕ) → 2 ^ (suc x * 8) ≡ 256 * 2 ^ (x * 8)
-    power x = ap (λ (y : ℕ). 2 ^ y) (eight-more x) ∙ pow-add 2 8 (x * 8)
+    power x = ap (λ (y : ℕ). 2 ^ y) (eight_more x) ∙ pow-add 2 8 (x * 8)
       where
-        eight-more : (y : ℕ) → suc y * 8 ≡ 8 + y * 8
-        eight-more y = omega arith
+        eight_more : (y : ℕ) → suc y * 8 ≡ 8 + y * 8
+        eight_more y = omega arith
 
     higher : (x y : ℕ) → x ≤ 64 → (x + 256 * y) / 256 ≡ y
     higher x y g = omega arith
@@ -121,7 +121,7 @@ row_word i t (suc n) q work j ht hq room small h g =
           ∙ ap (λ (x : ℕ). packed work i t 8 (x * 8)) (sym e)
       | no ne ↦
           row_word i t n (q + 1) stored j ht (omega arith) (omega arith) half_small (omega arith) (omega arith)
-          ∙ packed-cong i stored work half_small t 8 (j * 8) same (omega arith)
+          ∙ packed_cong i stored work half_small t 8 (j * 8) same (omega arith)
     ]
 
 pub row-need : (i t words : ℕ) (work : List ℕ) (s : ℕ) → t < most_steps → words ≤ 32 → steps_place ≤ length work → half_at work ≤ 128 → s < 8 * words
@@ -168,6 +168,6 @@ rows-filled i words (suc n) t work hw hn room small r s h g hs =
           let same : Agree t final work = agree_trans t final first work (agree_fewer t (t + 1) final first (omega arith) later) (row_agrees i t words 0 work ht (omega arith)) in
           subst (λ (x : ℕ). need final x s ≡ least_to final i x s) (sym e)
           (need-cong final first t s (later.rows (t * row_words + s / 8) (omega arith)) ∙ row-need i t words work s ht hw room small hs
-          ∙ sym (leastTo-cong i final work (omega arith) t s same (omega arith)))
+          ∙ sym (least_to_cong i final work (omega arith) t s same (omega arith)))
       | no ne ↦ rows-filled i words n (t + 1) first hw (omega arith) (omega arith) (omega arith) r s (omega arith) (omega arith) hs
     ]

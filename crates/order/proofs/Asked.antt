@@ -38,9 +38,9 @@ unfolding if_taken
 numbered_taken true q n = n
 numbered_taken false q n = tt
 
-pub numbered-numbers : (takes : Takes) (o : Order) → Numbered (number_questions takes o)
+pub numbered_numbers : (takes : Takes) (o : Order) → Numbered (number_questions takes o)
 unfolding number_questions
-numbered-numbers takes o =
+numbered_numbers takes o =
     numbered_++ (if_taken takes.degree (check_degree o.N o.m)) (if_taken takes.threshold (threshold o.d))
     (numbered_taken takes.degree (check_degree o.N o.m) tt) (numbered_taken takes.threshold (threshold o.d) tt)
 
@@ -48,12 +48,12 @@ pub numbered_generators : (v : ℕ) (gs : List ℕ) → Numbered (generator_ques
 unfolding generator_questions
 numbered_generators v gs = tt
 
-pub numbered-order : (takes : Takes) (o : Order) → Numbered (order_questions takes o)
+pub numbered_order : (takes : Takes) (o : Order) → Numbered (order_questions takes o)
 unfolding order_questions
-numbered-order takes o =
+numbered_order takes o =
     numbered_++ (shape_questions takes.versions takes.longest o.version (length o.generators) o.v o.N) (number_questions takes o ++ generator_questions o.v o.generators)
     (numbered_shape takes.versions takes.longest o.version (length o.generators) o.v o.N)
-    (numbered_++ (number_questions takes o) (generator_questions o.v o.generators) (numbered-numbers takes o) (numbered_generators o.v o.generators))
+    (numbered_++ (number_questions takes o) (generator_questions o.v o.generators) (numbered_numbers takes o) (numbered_generators o.v o.generators))
 
 -- ---- what follows
 
@@ -138,7 +138,7 @@ pub accepted_as : (takes : Takes) → takes.versions ≤ highest_version → tak
 unfolding order_questions number_questions
 accepted_as takes known most o e =
     let outer = none_in_parts _ _ (numbered_shape _ _ _ _ _ _) e in
-    let inner = none_in_parts _ _ (numbered-numbers takes o) outer.1 in
+    let inner = none_in_parts _ _ (numbered_numbers takes o) outer.1 in
     let degree : Question = check_degree o.N o.m in
     let weights : Question = threshold o.d in
     let numbers = none_in_parts (if_taken takes.degree degree) (if_taken takes.threshold weights) (numbered_taken takes.degree degree tt) inner.0 in
@@ -174,14 +174,14 @@ generators_in r h = take-get_or 0 r.generators r.n h
 
 -- of an accepted order, by a copy of all four
 module _ (r : OrderRecord) (acc : AcceptedCode (order_in r)) where
-  pub few-in : r.n ≤ 4
-  few-in = rw length-order_in at acc.few_generators
+  pub few_in : r.n ≤ 4
+  few_in = rw length-order_in at acc.few_generators
 
   pub four_are : (gs : List ℕ) → gs ≡ r.generators → length gs ≡ 4 → take r.n gs ≡ (order_in r).generators
-  four_are gs e four = ap (take r.n) e ∙ generators_in r (let few = few-in in let all = ap length e in omega arith)
+  four_are gs e four = ap (take r.n) e ∙ generators_in r (let few = few_in in let all = ap length e in omega arith)
 
-  pub four-few : (gs : List ℕ) → gs ≡ r.generators → length gs ≡ 4 → length (take r.n gs) ≤ 4
-  four-few gs e four = rw (four_are gs e four) acc.few_generators
+  pub four_few : (gs : List ℕ) → gs ≡ r.generators → length gs ≡ 4 → length (take r.n gs) ≤ 4
+  four_few gs e four = rw (four_are gs e four) acc.few_generators
 
 -- ---- asked part by part, as the code does
 
@@ -191,22 +191,22 @@ pub shape_asked : (versions longest : ℕ) (r : OrderRecord) (s : ℕ) → s ≡
 shape_asked versions longest r s es = es ∙ ap (λ (n : ℕ). first_no (shape_questions versions longest r.version n r.v r.bits)) (sym (length-order_in r))
 
 module _ (takes : Takes) (r : OrderRecord) (s : ℕ) (es : s ≡ first_no (shape_questions takes.versions takes.longest r.version r.n r.v r.bits)) where
-  pub refused-by-shape : (s ≡ 0 → ⊥) → s ≡ first_no (order_questions takes (order_in r))
+  pub refused_by_shape : (s ≡ 0 → ⊥) → s ≡ first_no (order_questions takes (order_in r))
   unfolding order_questions order_in
-  refused-by-shape n = refused_first _ _ s (numbered_shape _ _ _ _ _ _) (shape_asked _ _ r s es) n
+  refused_by_shape n = refused_first _ _ s (numbered_shape _ _ _ _ _ _) (shape_asked _ _ r s es) n
 
   module _ (zs : s ≡ 0) where
     pub shape_of : Shaped takes.versions takes.longest r.version r.n r.v r.bits
     shape_of = shaped _ _ _ _ _ _ (sym es ∙ zs)
 
     module _ (x : ℕ) (ex : x ≡ first_no (number_questions takes (order_in r))) where
-      pub refused-by-numbers : (x ≡ 0 → ⊥) → x ≡ first_no (order_questions takes (order_in r))
+      pub refused_by_numbers : (x ≡ 0 → ⊥) → x ≡ first_no (order_questions takes (order_in r))
       unfolding order_questions order_in
-      refused-by-numbers n = refused_later _ _ s x (numbered_shape _ _ _ _ _ _) (shape_asked _ _ r s es) zs (refused_first _ _ x (numbered-numbers takes (order_in r)) ex n)
+      refused_by_numbers n = refused_later _ _ s x (numbered_shape _ _ _ _ _ _) (shape_asked _ _ r s es) zs (refused_first _ _ x (numbered_numbers takes (order_in r)) ex n)
 
       pub all_asked : x ≡ 0 → (y : ℕ) → length r.generators ≡ 4 → y ≡ first_no (generator_questions r.v (take r.n r.generators)) → y ≡ first_no (order_questions takes (order_in r))
       unfolding order_questions order_in
       all_asked zx y four ey =
           refused_later _ _ s y (numbered_shape _ _ _ _ _ _) (shape_asked _ _ r s es) zs
-          (refused_later _ _ x y (numbered-numbers takes (order_in r)) ex zx
+          (refused_later _ _ x y (numbered_numbers takes (order_in r)) ex zx
           (ey ∙ ap (λ (gs : List ℕ). first_no (generator_questions r.v gs)) (generators_in r (let few = shape_of.few_generators in omega arith))))

@@ -76,24 +76,24 @@ refused_later qs rest r x n e z ex = ex ∙ ap (λ (k : ℕ). or_else k (first_n
 -- ---- a call's answer
 
 module _ {A : Type 0} (answer : Answer A) where
-  pub is-refused : (r n : ℕ) → r ≡ n → (r ≡ 0 → ⊥) → refused r ≡ unless n answer
+  pub is_refused : (r n : ℕ) → r ≡ n → (r ≡ 0 → ⊥) → refused r ≡ unless n answer
   unfolding unless
-  is-refused zero n e nz = absurd (nz refl)
-  is-refused (suc r) n e nz = ap (λ (k : ℕ). unless k answer) e
+  is_refused zero n e nz = absurd (nz refl)
+  is_refused (suc r) n e nz = ap (λ (k : ℕ). unless k answer) e
 
-  pub is-answered : (n : ℕ) → 0 ≡ n → answer ≡ unless n answer
+  pub is_answered : (n : ℕ) → 0 ≡ n → answer ≡ unless n answer
   unfolding unless
-  is-answered n e = ap (λ (k : ℕ). unless k answer) e
+  is_answered n e = ap (λ (k : ℕ). unless k answer) e
 
 module _ {A L : Type 0} (lent : L) (outcome : Answer A × L) where
-  pub leaves-refused : (r n : ℕ) → r ≡ n → (r ≡ 0 → ⊥) → ◌≡◌ {A = Answer A × L} (refused r, lent) (unless_refused n lent outcome)
+  pub leaves_refused : (r n : ℕ) → r ≡ n → (r ≡ 0 → ⊥) → ◌≡◌ {A = Answer A × L} (refused r, lent) (unless_refused n lent outcome)
   unfolding unless_refused
-  leaves-refused zero n e nz = absurd (nz refl)
-  leaves-refused (suc r) n e nz = ap (λ (k : ℕ). unless_refused k lent outcome) e
+  leaves_refused zero n e nz = absurd (nz refl)
+  leaves_refused (suc r) n e nz = ap (λ (k : ℕ). unless_refused k lent outcome) e
 
-  pub leaves-answered : (n : ℕ) → 0 ≡ n → outcome ≡ unless_refused n lent outcome
+  pub leaves_answered : (n : ℕ) → 0 ≡ n → outcome ≡ unless_refused n lent outcome
   unfolding unless_refused
-  leaves-answered n e = ap (λ (k : ℕ). unless_refused k lent outcome) e
+  leaves_answered n e = ap (λ (k : ℕ). unless_refused k lent outcome) e
 
 -- a refusal is no other answer
 pub refused_not_accepted : {A : Type 0} (r : ℕ) (x : A) → refused r ≡ accepted x → ⊥

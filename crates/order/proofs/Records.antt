@@ -135,37 +135,37 @@ too_many o h = second_no _ _ _ (sym (not_too_small 2 4 (length o.generators) (om
 
 module _ (bytes : List ℕ) where
   -- the questions about the fields are those about the record's order: of more than four generators both say 3, or 2 before it
-  inside-same : first_no (order_questions everything (order_in (fields_of bytes))) ≡ first_no (order_questions everything (read_fields bytes))
+  inside_same : first_no (order_questions everything (order_in (fields_of bytes))) ≡ first_no (order_questions everything (read_fields bytes))
   unfolding fields_of order_in read_fields
-  inside-same = elim (lt_or_ge 4 (get_or bytes 3 0)) [
+  inside_same = elim (lt_or_ge 4 (get_or bytes 3 0)) [
     | inl more ↦ too_many (order_in (fields_of bytes)) (rw (length_fields bytes) more) ∙ sym (too_many (read_fields bytes) (rw (length-read bytes) more))
     | inr few ↦ ap (λ (o : Order). first_no (order_questions everything o)) (fields_order bytes few)
   ]
 
-  reading-refused : (r : ℕ) → r ≡ first_no (record_questions bytes ++ order_questions everything (read_fields bytes)) → (r ≡ 0 → ⊥) → reading_of (refused r) ≡ reading_of (read bytes)
+  reading_refused : (r : ℕ) → r ≡ first_no (record_questions bytes ++ order_questions everything (read_fields bytes)) → (r ≡ 0 → ⊥) → reading_of (refused r) ≡ reading_of (read bytes)
   unfolding read unless
-  reading-refused zero e n = absurd (n refl)
-  reading-refused (suc r) e n = ap (λ (k : ℕ). reading_of (unless k (accepted (read_fields bytes)))) e
+  reading_refused zero e n = absurd (n refl)
+  reading_refused (suc r) e n = ap (λ (k : ℕ). reading_of (unless k (accepted (read_fields bytes)))) e
 
   module _ (r : ℕ) (er : r ≡ first_no (record_questions bytes)) where
-    pub read-refused-outside : (a : Reading) → a ≡ reading_of (refused r) → (r ≡ 0 → ⊥) → a ≡ reading_of (read bytes)
-    read-refused-outside a e n = e ∙ reading-refused r (refused_first _ _ r (record_numbered bytes) er n) n
+    pub read_refused_outside : (a : Reading) → a ≡ reading_of (refused r) → (r ≡ 0 → ⊥) → a ≡ reading_of (read bytes)
+    read_refused_outside a e n = e ∙ reading_refused r (refused_first _ _ r (record_numbered bytes) er n) n
 
     module _ (z : r ≡ 0) (o : OrderRecord) (eo : o ≡ fields_of bytes) (x : ℕ) (ex : x ≡ first_no (order_questions everything (order_in o))) where
-      asked-inside : x ≡ first_no (order_questions everything (read_fields bytes))
-      asked-inside = ex ∙ ap (λ (q : OrderRecord). first_no (order_questions everything (order_in q))) eo ∙ inside-same
+      asked_inside : x ≡ first_no (order_questions everything (read_fields bytes))
+      asked_inside = ex ∙ ap (λ (q : OrderRecord). first_no (order_questions everything (order_in q))) eo ∙ inside_same
 
-      asked-all : x ≡ first_no (record_questions bytes ++ order_questions everything (read_fields bytes))
-      asked-all = refused_later _ _ r x (record_numbered bytes) er z asked-inside
+      asked_all : x ≡ first_no (record_questions bytes ++ order_questions everything (read_fields bytes))
+      asked_all = refused_later _ _ r x (record_numbered bytes) er z asked_inside
 
-      pub read-refused-inside : (a : Reading) → a ≡ reading_of (refused x) → (x ≡ 0 → ⊥) → a ≡ reading_of (read bytes)
-      read-refused-inside a e n = e ∙ reading-refused x asked-all n
+      pub read_refused_inside : (a : Reading) → a ≡ reading_of (refused x) → (x ≡ 0 → ⊥) → a ≡ reading_of (read bytes)
+      read_refused_inside a e n = e ∙ reading_refused x asked_all n
 
-      pub read-accepted : x ≡ 0 → record { refusal = 0; order = o } ≡ reading_of (read bytes)
+      pub read_accepted : x ≡ 0 → record { refusal = 0; order = o } ≡ reading_of (read bytes)
       unfolding read unless reading_of
-      read-accepted zx =
-          let code = (accepted_whole (read_fields bytes) (sym asked-inside ∙ zx)).order.code in
+      read_accepted zx =
+          let code = (accepted_whole (read_fields bytes) (sym asked_inside ∙ zx)).order.code in
           let count : length (read_fields bytes).generators ≡ get_or bytes 3 0 = length-read bytes in
           ap (λ (q : OrderRecord). record { refusal = 0; order = q })
           (eo ∙ fields_are_record bytes (rw (← count) code.some_generators) (rw (← count) code.few_generators) (record_size bytes (sym er ∙ z)))
-          ∙ ap (λ (k : ℕ). reading_of (unless k (accepted (read_fields bytes)))) (sym zx ∙ asked-all)
+          ∙ ap (λ (k : ℕ). reading_of (unless k (accepted (read_fields bytes)))) (sym zx ∙ asked_all)

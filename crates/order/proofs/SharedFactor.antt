@@ -43,15 +43,15 @@ refused_16⇔SharesFactor takes o = by takes.degree takes.threshold
         let s = says_no o.generators in
         (λ e. let h = l.0 e in (h.0, s.0 h.1), λ h. l.1 (h.0, s.1 h.1))
 
-    with-numbers : (degree threshold : Bool) → Takes
-    with-numbers degree threshold = record { versions = takes.versions; longest = takes.longest; degree = degree; threshold = threshold }
+    with_numbers : (degree threshold : Bool) → Takes
+    with_numbers degree threshold = record { versions = takes.versions; longest = takes.longest; degree = degree; threshold = threshold }
 
     by : (degree threshold : Bool)
-        → (first_no (order_questions (with-numbers degree threshold) o) ≡ 16) ↔ ((first_no (before16 (with-numbers degree threshold) o) ≡ 0) × SharesFactor o.generators)
-    by true true = last (before16 (with-numbers true true) o) tt tt
-    by true false = last (before16 (with-numbers true false) o) tt tt
-    by false true = last (before16 (with-numbers false true) o) tt tt
-    by false false = last (before16 (with-numbers false false) o) tt tt
+        → (first_no (order_questions (with_numbers degree threshold) o) ≡ 16) ↔ ((first_no (before16 (with_numbers degree threshold) o) ≡ 0) × SharesFactor o.generators)
+    by true true = last (before16 (with_numbers true true) o) tt tt
+    by true false = last (before16 (with_numbers true false) o) tt tt
+    by false true = last (before16 (with_numbers false true) o) tt tt
+    by false false = last (before16 (with_numbers false false) o) tt tt
 
 -- the generators of an accepted order share none
 pub accepted_shares_none : (o : Order) → AcceptedCode o → SharesFactor o.generators → ⊥

@@ -8,7 +8,7 @@ use Rattle.order.specs.Answer.{Answer, accepted, unless}
 use Rattle.order.specs.declared.questions.Takes.{Takes}
 
 pub record Order : Type 0 where
-  -- the kind of link: 1 tail_biting, 2 terminated (document 01: the version of the record)
+  -- the kind of link: 1 tail-biting, 2 terminated (document 01: the version of the record)
   pub version : ℕ
   -- v: how many earlier inputs the encoder remembers
   pub v : ℕ

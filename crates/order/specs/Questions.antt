@@ -19,7 +19,7 @@ first_no (q ∷ qs) = let rest = first_no qs in cond q.1 rest q.0
 unfoldable pub from_to : ℕ → ℕ → ℕ → Bool
 from_to low high x = leb low x && leb x high
 
--- the highest version of an order: 1 is a tail_biting link, 2 a terminated one (document 01: the version of a record)
+-- the highest version of an order: 1 is a tail-biting link, 2 a terminated one (document 01: the version of a record)
 abbrev pub highest_version : ℕ
 highest_version = 2
 

@@ -9,7 +9,7 @@ use gcd::share_factor;
 // The numbers that a work area has at least.
 pub const WORK_SIZE: usize = 8192;
 
-// The highest version of an order: 1 is a tail_biting link, 2 a terminated one.
+// The highest version of an order: 1 is a tail-biting link, 2 a terminated one.
 pub const HIGHEST_VERSION: u64 = 2;
 
 // The bits of the longest word.

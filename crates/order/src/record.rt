@@ -10,7 +10,7 @@ use super::questions::{
     EVERYTHING, HIGHEST_VERSION, Takes, ask_generators, ask_shape, degree_fits, from_to,
 };
 
-// An order as a record gives it: the kind of link (1 tail_biting, 2 terminated); n generators, the first first, the others 0.
+// An order as a record gives it: the kind of link (1 tail-biting, 2 terminated); n generators, the first first, the others 0.
 #[repr(C)]
 #[derive(Clone, Copy)]
 pub struct OrderRecord {

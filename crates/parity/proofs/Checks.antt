@@ -11,7 +11,7 @@ use borrow.Author.Tests.{eq-eqb, ne_eqb}
 use lib.ListN.{length, get_or}
 use Rattle.lists.specs.Lists.{up_from}
 use Rattle.lists.proofs.Lengths.{length-up_from, get_or-up_from}
-use Rattle.lists.proofs.Scan.{all-fails, all-goes-on, all_end}
+use Rattle.lists.proofs.Scan.{all_fails, all_goes_on, all_end}
 use Rattle.parity.specs.Model.Parity.{oddness, odd_of_four, even, even_from, all_even}
 
 module _ (rows : List ℕ) (m low high : ℕ) where
@@ -20,19 +20,19 @@ module _ (rows : List ℕ) (m low high : ℕ) where
   rows_all = refl
 
   module _ (i : ℕ) where
-    before-length : i < m → i < length (up_from 0 m)
-    before-length h = subst⁻¹ (λ (n : ℕ). i < n) (length-up_from 0 m) h
+    before_length : i < m → i < length (up_from 0 m)
+    before_length h = subst⁻¹ (λ (n : ℕ). i < n) (length-up_from 0 m) h
 
     row_at : i < m → even rows low high (get_or (up_from 0 m) i 0) ≡ even rows low high i
     row_at h = ap (even rows low high) (get_or-up_from 0 m i h ∙ zero-add i)
 
-    pub row-odd : i < m → (oddness rows low high i ≡ 0 → ⊥) → even_from rows m i low high ≡ false
+    pub row_odd : i < m → (oddness rows low high i ≡ 0 → ⊥) → even_from rows m i low high ≡ false
     unfolding even_from even
-    row-odd h odd = all-fails (even rows low high) (up_from 0 m) 0 i (before-length h) (row_at h ∙ ne_eqb (oddness rows low high i) 0 odd)
+    row_odd h odd = all_fails (even rows low high) (up_from 0 m) 0 i (before_length h) (row_at h ∙ ne_eqb (oddness rows low high i) 0 odd)
 
     pub row-even : i < m → oddness rows low high i ≡ 0 → even_from rows m i low high ≡ even_from rows m (i + 1) low high
     unfolding even_from even
-    row-even h zero = all-goes-on (even rows low high) (up_from 0 m) 0 i (before-length h) (row_at h ∙ eq-eqb (oddness rows low high i) 0 zero)
+    row-even h zero = all_goes_on (even rows low high) (up_from 0 m) 0 i (before_length h) (row_at h ∙ eq-eqb (oddness rows low high i) 0 zero)
 
     pub rows_end : m ≤ i → even_from rows m i low high ≡ true
     unfolding even_from
@@ -48,9 +48,9 @@ module _ (rows : List ℕ) (m low high : ℕ) where
     abbrev odd : ℕ → ℕ
     odd k = oddness rows low high (i + k)
 
-    pub four-even : odd_of_four rows low high i ≡ 0 → even_from rows m i low high ≡ even_from rows m (i + 4) low high
+    pub four_even : odd_of_four rows low high i ≡ 0 → even_from rows m i low high ≡ even_from rows m (i + 4) low high
     unfolding odd_of_four
-    four-even none =
+    four_even none =
         let a : oddness rows low high i ≡ 0 = omega arith in
         let b : odd 1 ≡ 0 = omega arith in
         let c : odd 2 ≡ 0 = omega arith in
@@ -58,21 +58,21 @@ module _ (rows : List ℕ) (m low high : ℕ) where
         next_row i (i + 1) (omega arith) a (omega arith) ∙ next_row (i + 1) (i + 2) (omega arith) b (omega arith)
         ∙ next_row (i + 2) (i + 3) (omega arith) c (omega arith) ∙ next_row (i + 3) (i + 4) (omega arith) d (omega arith)
 
-    pub four-odd : (odd_of_four rows low high i ≡ 0 → ⊥) → even_from rows m i low high ≡ false
+    pub four_odd : (odd_of_four rows low high i ≡ 0 → ⊥) → even_from rows m i low high ≡ false
     unfolding odd_of_four
-    four-odd some = first (ℕ_discrete (oddness rows low high i) 0)
+    four_odd some = first (ℕ_discrete (oddness rows low high i) 0)
       where
         fourth : oddness rows low high i ≡ 0 → odd 1 ≡ 0 → odd 2 ≡ 0 → even_from rows m (i + 3) low high ≡ false
-        fourth a b c = row-odd (i + 3) (omega arith) (λ d. some (omega arith))
+        fourth a b c = row_odd (i + 3) (omega arith) (λ d. some (omega arith))
 
         third : oddness rows low high i ≡ 0 → odd 1 ≡ 0 → Dec (odd 2 ≡ 0) → even_from rows m (i + 2) low high ≡ false
-        third a b (no n) = row-odd (i + 2) (omega arith) n
+        third a b (no n) = row_odd (i + 2) (omega arith) n
         third a b (yes c) = next_row (i + 2) (i + 3) (omega arith) c (omega arith) ∙ fourth a b c
 
         second : oddness rows low high i ≡ 0 → Dec (odd 1 ≡ 0) → even_from rows m (i + 1) low high ≡ false
-        second a (no n) = row-odd (i + 1) (omega arith) n
+        second a (no n) = row_odd (i + 1) (omega arith) n
         second a (yes b) = next_row (i + 1) (i + 2) (omega arith) b (omega arith) ∙ third a b (ℕ_discrete (odd 2) 0)
 
         first : Dec (oddness rows low high i ≡ 0) → even_from rows m i low high ≡ false
-        first (no n) = row-odd i (omega arith) n
+        first (no n) = row_odd i (omega arith) n
         first (yes a) = next_row i (i + 1) (omega arith) a (omega arith) ∙ second a (ℕ_discrete (odd 1) 0)

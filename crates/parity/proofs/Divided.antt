@@ -15,8 +15,8 @@ use lib.ListN.{length, get_or}
 use lib.Pow.{pow_pos, split}
 use Rattle.lists.specs.Lists.{up_from, all}
 use Rattle.lists.proofs.Choices.{eqb_passes}
-use Rattle.lists.proofs.Lengths.{length-map-up_from, get_or-map-up_from, getD-padded-inside}
-use Rattle.lists.proofs.Member.{in_up_from, up_from_bounds, of-all, in_all}
+use Rattle.lists.proofs.Lengths.{length-map-up_from, get_or-map-up_from, get_or-padded_inside}
+use Rattle.lists.proofs.Member.{in_up_from, up_from_bounds, of_all, in_all}
 use Rattle.lists.proofs.Tests.{same_test}
 use Rattle.poly.specs.Poly.{bit, ◌⊕◌, HasDegree, remainder}
 use Rattle.poly.specs.Word.{halves}
@@ -50,23 +50,23 @@ top_lt u N h = (div-lt_iff_lt-mul (pow_pos N)).1 (subst (λ (x : ℕ). u < x) (p
 
 module _ (m p i : ℕ) where
   -- of a digit at place k
-  bit-of-digit : (b k : ℕ) → b < 2 → bit i (remainder m p (b * 2 ^ k)) ≡ b * bit i (remainder m p (2 ^ k))
-  bit-of-digit b k h =
+  bit_of_digit : (b k : ℕ) → b < 2 → bit i (remainder m p (b * 2 ^ k)) ≡ b * bit i (remainder m p (2 ^ k))
+  bit_of_digit b k h =
       for_bits (λ (x : ℕ). bit i (remainder m p (x * 2 ^ k)) ≡ x * bit i (remainder m p (2 ^ k)))
       (ap (λ (x : ℕ). bit i (remainder m p x)) (zero-mul (2 ^ k)) ∙ ap (bit i) (remainder_zero m p) ∙ bit_zero i ∙ sym (zero-mul (bit i (remainder m p (2 ^ k)))))
       (ap (λ (x : ℕ). bit i (remainder m p x)) (one-mul (2 ^ k)) ∙ sym (one-mul (bit i (remainder m p (2 ^ k))))) b h
 
   -- of a word with the digit b above the bits of u
-  bit-with-digit : (N b u : ℕ) → b < 2 → u < 2 ^ N → bit i (remainder m p u) ≡ ones (bit_and u (check_row N m p i)) % 2
+  bit_with_digit : (N b u : ℕ) → b < 2 → u < 2 ^ N → bit i (remainder m p u) ≡ ones (bit_and u (check_row N m p i)) % 2
       → bit i (remainder m p (b * 2 ^ N + u)) ≡ ones (bit_and (b * 2 ^ N + u) (check_row (suc N) m p i)) % 2
-  bit-with-digit N b u hb hu e =
+  bit_with_digit N b u hb hu e =
       let x : ℕ = bit i (remainder m p (2 ^ N)) in
       let row : ℕ = check_row N m p i in
       ap (λ (y : ℕ). bit i (remainder m p y)) (sym (⊕_shifted b N u hu))
       ∙ ap (bit i) (remainder_⊕ m p (b * 2 ^ N) u)
       ∙ bit_⊕ i (remainder m p (b * 2 ^ N)) (remainder m p u)
       ∙ differ_sum (bit i (remainder m p (b * 2 ^ N))) (bit i (remainder m p u)) (bit_lt i (remainder m p (b * 2 ^ N))) (bit_lt i (remainder m p u))
-      ∙ ap₂ (λ (y z : ℕ). (y + z) % 2) (bit-of-digit b N hb ∙ sym (ones_and_digits b x hb (bit_lt i (remainder m p (2 ^ N))))) e
+      ∙ ap₂ (λ (y z : ℕ). (y + z) % 2) (bit_of_digit b N hb ∙ sym (ones_and_digits b x hb (bit_lt i (remainder m p (2 ^ N))))) e
       ∙ parity (ones (bit_and b x)) (ones (bit_and u row))
       ∙ ap (λ (y : ℕ). y % 2) (sym (ones_and_block N b x u row hu (row_lt N m p i)))
       ∙ ap (λ (y : ℕ). ones (bit_and (b * 2 ^ N + u) y) % 2) (sym (row_more N m p i))
@@ -75,15 +75,15 @@ module _ (m p i : ℕ) where
       parity x y = omega arith
 
   -- it is the parity of the ones at the places of row i
-  pub bit-of-remainder : (N u : ℕ) → u < 2 ^ N → bit i (remainder m p u) ≡ ones (bit_and u (check_row N m p i)) % 2
-  bit-of-remainder zero u h =
+  pub bit_of_remainder : (N u : ℕ) → u < 2 ^ N → bit i (remainder m p u) ≡ ones (bit_and u (check_row N m p i)) % 2
+  bit_of_remainder zero u h =
       let none : u ≡ 0 = lt-one h in
       ap (λ (x : ℕ). bit i (remainder m p x)) none ∙ ap (bit i) (remainder_zero m p) ∙ bit_zero i
       ∙ sym (ap (λ (x : ℕ). ones (bit_and x (check_row 0 m p i)) % 2) none ∙ ap (λ (x : ℕ). x % 2) (ones_and_none (check_row 0 m p i)))
-  bit-of-remainder (suc N) u h =
+  bit_of_remainder (suc N) u h =
       let low : u % 2 ^ N < 2 ^ N = mod-lt u (pow_pos N) in
       subst (λ (x : ℕ). bit i (remainder m p x) ≡ ones (bit_and x (check_row (suc N) m p i)) % 2) (split u N)
-      (bit-with-digit N (u / 2 ^ N) (u % 2 ^ N) (top_lt u N h) low (bit-of-remainder N (u % 2 ^ N) low))
+      (bit_with_digit N (u / 2 ^ N) (u % 2 ^ N) (top_lt u N h) low (bit_of_remainder N (u % 2 ^ N) low))
 
 -- ---- a row of the table
 
@@ -94,8 +94,8 @@ get_or_table N m p i h =
     let n : length (flat_map halves us) ≡ 2 * m = length-halves us ∙ ap (λ (x : ℕ). 2 * x) (length-map-up_from (check_row N m p) 0 m) in
     let at : get_or us i 0 ≡ check_row N m p i = get_or-map-up_from (check_row N m p) 0 m i 0 h ∙ ap (check_row N m p) (zero-add i) in
     let two = get_or-halves us i in (
-      getD-padded-inside 24 0 (flat_map halves us) (2 * i) 0 (omega arith) ∙ two.0 ∙ ap (λ (x : ℕ). x % 2 ^ 64) at,
-      getD-padded-inside 24 0 (flat_map halves us) (2 * i + 1) 0 (omega arith) ∙ two.1 ∙ ap (λ (x : ℕ). x / 2 ^ 64) at,
+      get_or-padded_inside 24 0 (flat_map halves us) (2 * i) 0 (omega arith) ∙ two.0 ∙ ap (λ (x : ℕ). x % 2 ^ 64) at,
+      get_or-padded_inside 24 0 (flat_map halves us) (2 * i + 1) 0 (omega arith) ∙ two.1 ∙ ap (λ (x : ℕ). x / 2 ^ 64) at,
     )
 
 -- the ones of both halves
@@ -116,7 +116,7 @@ even-bit N m p low high i small short h =
     ap (λ (x : ℕ). eqb x 0)
     (ap₂ (λ (x y : ℕ). ones (bit_and low x ⊕ bit_and high y) % 2) at.0 at.1
     ∙ ones_at_row (check_row N m p i) low high small
-    ∙ sym (bit-of-remainder m p i N (high * 2 ^ 64 + low) short))
+    ∙ sym (bit_of_remainder m p i N (high * 2 ^ 64 + low) short))
 
 -- ---- all rows
 
@@ -131,7 +131,7 @@ all-even_divided N m p low high d small short =
     same_test (all rows (up_from 0 m)) (eqb r 0)
     (λ t. eqb_passes r 0
     (eq_by_bits m r 0 (remainder_lt m p (high * 2 ^ 64 + low) d) (pow_pos m)
-    (λ i h. eqb→eq (bit i r) 0 (subst T (row i h) (of-all rows (up_from 0 m) t i (in_up_from 0 m (omega arith) (omega arith)))) ∙ sym (bit_zero i))))
+    (λ i h. eqb→eq (bit i r) 0 (subst T (row i h) (of_all rows (up_from 0 m) t i (in_up_from 0 m (omega arith) (omega arith)))) ∙ sym (bit_zero i))))
     (λ t. in_all rows (up_from 0 m)
     (λ i l. let h = up_from_bounds 0 m l in
     subst T (sym (row i (omega arith))) (eqb_passes (bit i r) 0 (ap (bit i) (eqb→eq r 0 t) ∙ bit_zero i))))

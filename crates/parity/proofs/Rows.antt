@@ -26,16 +26,16 @@ module _ (h l j b : ℕ) (small : h * 2 ^ 64 + l < 2 ^ j) (s : j < 64) where
   pub low_fits : l + b * 2 ^ j % 2 ^ 64 < 2 ^ 64
   low_fits = beside_fits l b j s (omega arith)
 
-  pub low-set : b < 2 → h * 2 ^ 64 + (l + b * 2 ^ j % 2 ^ 64) ≡ b * 2 ^ j + (h * 2 ^ 64 + l)
-  low-set p = let whole : b * 2 ^ j % 2 ^ 64 ≡ b * 2 ^ j = shl_exact 1 j 64 p (omega arith) in omega arith
+  pub low_set : b < 2 → h * 2 ^ 64 + (l + b * 2 ^ j % 2 ^ 64) ≡ b * 2 ^ j + (h * 2 ^ 64 + l)
+  low_set p = let whole : b * 2 ^ j % 2 ^ 64 ≡ b * 2 ^ j = shl_exact 1 j 64 p (omega arith) in omega arith
 
 -- in the high one
 module _ (h l j b : ℕ) (small : h * 2 ^ 64 + l < 2 ^ j) (many : 64 ≤ j) (s : j < 128) where
   pub high_fits : h + b * 2 ^ (j - 64) % 2 ^ 64 < 2 ^ 64
   high_fits = let q : 2 ^ (j - 64) * 2 ^ 64 ≡ 2 ^ j = high_power j many in beside_fits h b (j - 64) (omega arith) (omega arith)
 
-  pub high-set : b < 2 → (h + b * 2 ^ (j - 64) % 2 ^ 64) * 2 ^ 64 + l ≡ b * 2 ^ j + (h * 2 ^ 64 + l)
-  high-set p =
+  pub high_set : b < 2 → (h + b * 2 ^ (j - 64) % 2 ^ 64) * 2 ^ 64 + l ≡ b * 2 ^ j + (h * 2 ^ 64 + l)
+  high_set p =
       regroup h (b * 2 ^ (j - 64) % 2 ^ 64) l
       ∙ ap (λ (x : ℕ). x + (h * 2 ^ 64 + l))
       (ap (λ (x : ℕ). x * 2 ^ 64) (shl_exact 1 (j - 64) 64 p (omega arith)) ∙ mul_assoc b (2 ^ (j - 64)) (2 ^ 64) ∙ ap (λ (x : ℕ). b * x) (high_power j many))

@@ -1,6 +1,6 @@
--- Chains of events of i are the loops of i: a chain's inputs make a loop whose first return is the chain's first event (`chain-loop`,
--- `chain-meets`) and which weighs what the events weigh (`chain-weight`); every loop of weight below the threshold is the loop of a chain
--- (`loop-chain`); and of one only (`chain-unique`).
+-- Chains of events of i are the loops of i: a chain's inputs make a loop whose first return is the chain's first event (`chain_loop`,
+-- `chain_meets`) and which weighs what the events weigh (`chain_weight`); every loop of weight below the threshold is the loop of a chain
+-- (`loop-chain`); and of one only (`chain_unique`).
 -- Assumes nothing.
 use Prim.Native.Nat.{ℕ, zero, suc, ◌+◌, ◌-◌, ◌*◌, ◌/◌, ◌%◌, ◌^◌, ◌≤◌, ◌<◌}
 use native.Mathlib.Nat.{mod-lt}
@@ -15,9 +15,9 @@ use Rattle.poly.specs.Poly.{bit}
 use Rattle.poly.proofs.Bits.{bit_low}
 use Rattle.code.specs.Links.{steps_of, event_states}
 use Rattle.code.specs.Trellis.{walk_weight}
-use Rattle.code.proofs.Cuts.{walkWeight-high}
-use Rattle.code.proofs.Meets.{Meets, of-firstMeets, in-firstMeets, meets-cong, meets-unique}
-use Rattle.code.proofs.Loops.{Loop, loop-empty, loop-join, joint-meets, loop-rest, loop-first}
+use Rattle.code.proofs.Cuts.{walk_weight_high}
+use Rattle.code.proofs.Meets.{Meets, of_first_meets, in_first_meets, meets_cong, meets_unique}
+use Rattle.code.proofs.Loops.{Loop, loop-empty, loop-join, joint_meets, loop-rest, loop-first}
 use Rattle.order.specs.Order.{Order}
 use Rattle.events.specs.Events.{ErrorEvent}
 use Rattle.events.proofs.OfState.{EventOf}
@@ -36,49 +36,49 @@ same_event o i e f h k p q =
     λ j. record { state = s j; length = p j; weight = w j; input = q j }
 
 module _ (o : Order) (i : ℕ) where
-  event-meets : (e : ErrorEvent) → EventOf o i e → Meets o.v i e.length i e.input
-  event-meets e h =
-      subst (λ (s : ℕ). Meets o.v s e.length s e.input) h.state_is (of-firstMeets o.v e.state e.length e.state e.input h.event.meets)
+  event_meets : (e : ErrorEvent) → EventOf o i e → Meets o.v i e.length i e.input
+  event_meets e h =
+      subst (λ (s : ℕ). Meets o.v s e.length s e.input) h.state_is (of_first_meets o.v e.state e.length e.state e.input h.event.meets)
 
-  event-weighs : (e : ErrorEvent) → EventOf o i e → walk_weight o.generators o.v e.length i e.input ≡ e.weight
-  event-weighs e h =
+  event_weighs : (e : ErrorEvent) → EventOf o i e → walk_weight o.generators o.v e.length i e.input ≡ e.weight
+  event_weighs e h =
       sym (h.event.weighs ∙ ap (λ (s : ℕ). walk_weight o.generators o.v e.length s e.input) h.state_is)
 
   -- ---- from chains to loops
 
-  pub chain-loop : (c : List ErrorEvent) → ChainOf o i c → Loop o.v i (steps c) (input_number c)
+  pub chain_loop : (c : List ErrorEvent) → ChainOf o i c → Loop o.v i (steps c) (input_number c)
   unfolding steps input_number
-  chain-loop [] h = loop-empty o.v i
-  chain-loop (e ∷ c) h =
+  chain_loop [] h = loop-empty o.v i
+  chain_loop (e ∷ c) h =
       let first = h e (Memᴰ.head refl) in
-      loop-join o.v i e.length (steps c) e.input (input_number c) (event-meets e first) first.event.input_fits (chain-loop c (λ f m. h f (Memᴰ.tail m)))
+      loop-join o.v i e.length (steps c) e.input (input_number c) (event_meets e first) first.event.input_fits (chain_loop c (λ f m. h f (Memᴰ.tail m)))
 
-  pub chain-meets : (e : ErrorEvent) (c : List ErrorEvent) → ChainOf o i (e ∷ c) → Meets o.v i e.length i (input_number (e ∷ c))
+  pub chain_meets : (e : ErrorEvent) (c : List ErrorEvent) → ChainOf o i (e ∷ c) → Meets o.v i e.length i (input_number (e ∷ c))
   unfolding input_number
-  chain-meets e c h = joint-meets o.v i e.length (steps c) e.input (input_number c) (event-meets e (h e (Memᴰ.head refl)))
+  chain_meets e c h = joint_meets o.v i e.length (steps c) e.input (input_number c) (event_meets e (h e (Memᴰ.head refl)))
 
-  pub chain-weight : (c : List ErrorEvent) → ChainOf o i c → walk_weight o.generators o.v (steps c) i (input_number c) ≡ cost c
+  pub chain_weight : (c : List ErrorEvent) → ChainOf o i c → walk_weight o.generators o.v (steps c) i (input_number c) ≡ cost c
   unfolding steps input_number cost walk_weight
-  chain-weight [] h = refl
-  chain-weight (e ∷ c) h =
+  chain_weight [] h = refl
+  chain_weight (e ∷ c) h =
       let first = h e (Memᴰ.head refl) in
-      walkWeight-high o.v e.length e.input (input_number c) first.event.input_fits o.generators (steps c) i
-      ∙ ap₂ ◌+◌ (event-weighs e first)
-      (ap (λ (s : ℕ). walk_weight o.generators o.v (steps c) s (input_number c)) (event-meets e first).arrives ∙ chain-weight c (λ f m. h f (Memᴰ.tail m)))
+      walk_weight_high o.v e.length e.input (input_number c) first.event.input_fits o.generators (steps c) i
+      ∙ ap₂ ◌+◌ (event_weighs e first)
+      (ap (λ (s : ℕ). walk_weight o.generators o.v (steps c) s (input_number c)) (event_meets e first).arrives ∙ chain_weight c (λ f m. h f (Memᴰ.tail m)))
 
   -- ---- a loop is the loop of one chain
 
-  pub chain-unique : (c c' : List ErrorEvent) → ChainOf o i c → ChainOf o i c' → steps c ≡ steps c' → input_number c ≡ input_number c' → c ≡ c'
+  pub chain_unique : (c c' : List ErrorEvent) → ChainOf o i c → ChainOf o i c' → steps c ≡ steps c' → input_number c ≡ input_number c' → c ≡ c'
   unfolding steps input_number
-  chain-unique [] [] h h' s n = refl
-  chain-unique [] (f ∷ d) h h' s n = absurd (omega (arith, (h' f (Memᴰ.head refl)).event.some_step))
-  chain-unique (e ∷ c) [] h h' s n = absurd (omega (arith, (h e (Memᴰ.head refl)).event.some_step))
-  chain-unique (e ∷ c) (f ∷ d) h h' s n =
+  chain_unique [] [] h h' s n = refl
+  chain_unique [] (f ∷ d) h h' s n = absurd (omega (arith, (h' f (Memᴰ.head refl)).event.some_step))
+  chain_unique (e ∷ c) [] h h' s n = absurd (omega (arith, (h e (Memᴰ.head refl)).event.some_step))
+  chain_unique (e ∷ c) (f ∷ d) h h' s n =
       let first = h e (Memᴰ.head refl) in
       let first' = h' f (Memᴰ.head refl) in
-      let meets = chain-meets e c h in
-      let meets' = subst (Meets o.v i f.length i) (sym n) (chain-meets f d h') in
-      let l : e.length ≡ f.length = meets-unique o.v i e.length f.length i (input_number c * 2 ^ e.length + e.input) meets meets' in
+      let meets = chain_meets e c h in
+      let meets' = subst (Meets o.v i f.length i) (sym n) (chain_meets f d h') in
+      let l : e.length ≡ f.length = meets_unique o.v i e.length f.length i (input_number c * 2 ^ e.length + e.input) meets meets' in
       let fit = first.event.input_fits in
       let fit' = first'.event.input_fits in
       let n' : input_number c * 2 ^ e.length + e.input ≡ input_number d * 2 ^ e.length + f.input =
@@ -89,7 +89,7 @@ module _ (o : Order) (i : ℕ) where
       let rests : input_number c ≡ input_number d =
       sym (high (input_number c) e.length fit) ∙ ap (λ (x : ℕ). x / 2 ^ e.length) n' ∙ high (input_number d) e.length fit'' in
       ap₂ ◌∷◌ (same_event o i e f first first' l inputs)
-      (chain-unique c d (λ x m. h x (Memᴰ.tail m)) (λ x m. h' x (Memᴰ.tail m)) (omega arith) rests)
+      (chain_unique c d (λ x m. h x (Memᴰ.tail m)) (λ x m. h' x (Memᴰ.tail m)) (omega arith) rests)
 
   -- ---- from loops to chains
 
@@ -107,56 +107,56 @@ module _ (o : Order) (i : ℕ) where
       abbrev begin : ℕ
       begin = c % 2 ^ l
 
-      begin-meets : Meets o.v i l i begin
-      begin-meets = meets-cong o.v i l i c begin (λ j h. ap (bit j) (sym (split c l)) ∙ bit_low j l (c / 2 ^ l) begin h) first
+      begin_meets : Meets o.v i l i begin
+      begin_meets = meets_cong o.v i l i c begin (λ j h. ap (bit j) (sym (split c l)) ∙ bit_low j l (c / 2 ^ l) begin h) first
 
-      begin-fits : begin < 2 ^ l
-      begin-fits = mod-lt c (pow_pos l)
+      begin_fits : begin < 2 ^ l
+      begin_fits = mod-lt c (pow_pos l)
 
       weights : walk_weight o.generators o.v (l + k) i c
           ≡ walk_weight o.generators o.v l i begin + walk_weight o.generators o.v k i (c / 2 ^ l)
       weights =
           ap (walk_weight o.generators o.v (l + k) i) (sym (split c l))
-          ∙ walkWeight-high o.v l begin (c / 2 ^ l) begin-fits o.generators k i
-          ∙ ap (λ (s : ℕ). walk_weight o.generators o.v l i begin + walk_weight o.generators o.v k s (c / 2 ^ l)) begin-meets.arrives
+          ∙ walk_weight_high o.v l begin (c / 2 ^ l) begin_fits o.generators k i
+          ∙ ap (λ (s : ℕ). walk_weight o.generators o.v l i begin + walk_weight o.generators o.v k s (c / 2 ^ l)) begin_meets.arrives
 
-      abbrev firstEvent : ErrorEvent
-      firstEvent = record { state = i; length = l; weight = walk_weight o.generators o.v l i begin; input = begin }
+      abbrev first_event : ErrorEvent
+      first_event = record { state = i; length = l; weight = walk_weight o.generators o.v l i begin; input = begin }
 
-      firstEvent-of : EventOf o i firstEvent
-      firstEvent-of = record {
+      first_event_of : EventOf o i first_event
+      first_event_of = record {
         state_is = refl;
         event = record {
           state_fits = state;
           some_step = first.some_step;
           at_most_steps = inside;
-          input_fits = begin-fits;
-          meets = in-firstMeets o.v i l i begin begin-meets;
+          input_fits = begin_fits;
+          meets = in_first_meets o.v i l i begin begin_meets;
           weighs = refl;
           below = omega (arith, weights);
         };
       }
 
-      rest-light : walk_weight o.generators o.v k i (c / 2 ^ l) < o.d
-      rest-light = omega (arith, weights)
+      rest_light : walk_weight o.generators o.v k i (c / 2 ^ l) < o.d
+      rest_light = omega (arith, weights)
 
       before : ChainFor k (c / 2 ^ l) → ChainFor (l + k) c
       unfolding steps input_number
       before r = record {
-        events = firstEvent ∷ r.events;
-        of_state = λ e m. ⊎_elim (λ p. subst (EventOf o i) (sym p) firstEvent-of) (r.of_state e) (Memᴰ.cases_cons m);
+        events = first_event ∷ r.events;
+        of_state = λ e m. ⊎_elim (λ p. subst (EventOf o i) (sym p) first_event_of) (r.of_state e) (Memᴰ.cases_cons m);
         steps_are = ap (λ (x : ℕ). l + x) r.steps_are;
         number_is = ap (λ (x : ℕ). x * 2 ^ l + begin) r.number_is ∙ split c l;
       }
 
     -- the chain of a loop, given those of shorter ones
-    chain-step : (k c : ℕ)
+    chain_step : (k c : ℕ)
         → ((k' c' : ℕ) → k' < k → k' ≤ steps_of o → Loop o.v i k' c' → walk_weight o.generators o.v k' i c' < o.d → ChainFor k' c')
         → k ≤ steps_of o → Loop o.v i k c → walk_weight o.generators o.v k i c < o.d → ChainFor k c
     unfolding steps input_number
-    chain-step zero c shorter g loop light =
+    chain_step zero c shorter g loop light =
         record { events = []; of_state = λ e m. absurd (Memᴰ.not-nil m); steps_are = refl; number_is = sym (lt-one loop.fits) }
-    chain-step (suc k) c shorter g loop light =
+    chain_step (suc k) c shorter g loop light =
         let found = loop-first o.v i (suc k) c (omega arith) loop in
         let l : ℕ = found.0 in
         let first = found.2 in
@@ -166,12 +166,12 @@ module _ (o : Order) (i : ℕ) where
         let light' = subst (λ (x : ℕ). walk_weight o.generators o.v x i c < o.d) e light in
         let inside : l ≤ steps_of o = omega (arith, found.1) in
         let rest = loop-rest o.v i l (suc k - l) c loop' first.arrives in
-        let chain = shorter (suc k - l) (c / 2 ^ l) (omega arith) (omega arith) rest (rest-light l (suc k - l) c first inside light') in
+        let chain = shorter (suc k - l) (c / 2 ^ l) (omega arith) (omega arith) rest (rest_light l (suc k - l) c first inside light') in
         subst (λ (x : ℕ). ChainFor x c) (sym e) (before l (suc k - l) c first inside light' chain)
 
     chain_by : (fuel k c : ℕ) → k ≤ fuel → k ≤ steps_of o → Loop o.v i k c → walk_weight o.generators o.v k i c < o.d → ChainFor k c
-    chain_by zero k c h = chain-step k c (λ k' c' g. absurd (omega arith))
-    chain_by (suc fuel) k c h = chain-step k c (λ k' c' g. chain_by fuel k' c' (omega arith))
+    chain_by zero k c h = chain_step k c (λ k' c' g. absurd (omega arith))
+    chain_by (suc fuel) k c h = chain_step k c (λ k' c' g. chain_by fuel k' c' (omega arith))
 
     pub loop-chain : (k c : ℕ) → k ≤ steps_of o → Loop o.v i k c → walk_weight o.generators o.v k i c < o.d → ChainFor k c
     loop-chain k c = chain_by k k c (omega arith)

@@ -1,5 +1,5 @@
 -- The chains that the recursion of `specs/Model/Joining.antt` meets, as a list: its members are the lists of events that fill the steps left and the
--- weight left (`of-chains`, `in-chains`), and none stands twice (`chains-distinct`).
+-- weight left (`of_chains`, `in_chains`), and none stands twice (`chains_distinct`).
 -- Assumes nothing.
 use Prim.Native.Nat.{ℕ, zero, suc, ◌-◌, ◌≤◌, ◌<◌}
 use native.Mathlib.Omega.{arith}
@@ -10,11 +10,11 @@ use mathlib.Core.List.Memᴰ
 use mathlib.Core.List.{List, [], ◌∷◌, map, flat_map, head-eq_of_cons-eq, tail-eq_of_cons-eq, Memᴰ}
 use lib.Dec.{T, leb, eqb, leb→le, le→leb, eqb→eq}
 use Rattle.lists.proofs.Tests.{T_and}
-use Rattle.lists.proofs.Member.{of-flatMap, in-flatMap}
+use Rattle.lists.proofs.Member.{of_flat_map, in_flat_map}
 use Rattle.lists.proofs.Sorted.{Within, map-sorted}
-use Rattle.lists.proofs.Blocks.{flatMap-sorted-on}
+use Rattle.lists.proofs.Blocks.{flat_map_sorted-on}
 use Rattle.lists.proofs.Distinct.{Distinct}
-use Rattle.lists.proofs.Choices.{eqb_passes, eqb_fails, mem-choice, of-guarded, in-first, in-second, guarded-sorted, choice-sorted}
+use Rattle.lists.proofs.Choices.{eqb_passes, eqb_fails, mem_choice, of_guarded, in_first, in_second, guarded_sorted, choice-sorted}
 use Rattle.events.specs.Events.{ErrorEvent}
 use Rattle.paths.specs.Chains.{steps, cost}
 use Rattle.paths.specs.Model.Joining.{fits_in}
@@ -52,10 +52,10 @@ fits_of_parts left budget e h g =
 
 module _ (es : List ErrorEvent) where
   -- one event more in front
-  fills-cons : (left budget : ℕ) (e : ErrorEvent) (c : List ErrorEvent) → Memᴰ e es → e.length ≤ left → e.weight ≤ budget
+  fills_cons : (left budget : ℕ) (e : ErrorEvent) (c : List ErrorEvent) → Memᴰ e es → e.length ≤ left → e.weight ≤ budget
       → Fills es (left - e.length) (budget - e.weight) c → Fills es left budget (e ∷ c)
   unfolding steps cost
-  fills-cons left budget e c m h g f =
+  fills_cons left budget e c m h g f =
       let s = f.steps_are in
       let w = f.cost_is in
       record {
@@ -64,20 +64,20 @@ module _ (es : List ErrorEvent) where
         cost_is = omega arith;
       }
 
-  fills-nil : (left budget : ℕ) → left ≡ 0 → budget ≡ 0 → Fills es left budget []
+  fills_nil : (left budget : ℕ) → left ≡ 0 → budget ≡ 0 → Fills es left budget []
   unfolding steps cost
-  fills-nil left budget h g = record { from = λ x m. absurd (Memᴰ.not-nil m); steps_are = sym h; cost_is = sym g }
+  fills_nil left budget h g = record { from = λ x m. absurd (Memᴰ.not-nil m); steps_are = sym h; cost_is = sym g }
 
   module _ (more : ℕ → ℕ → List (List ErrorEvent)) (left budget : ℕ) (e : ErrorEvent) where
-    of-chaining : ((l b : ℕ) (c : List ErrorEvent) → Memᴰ c (more l b) → Fills es l b c) → Memᴰ e es
+    of_chaining : ((l b : ℕ) (c : List ErrorEvent) → Memᴰ c (more l b) → Fills es l b c) → Memᴰ e es
         → {c : List ErrorEvent} → Memᴰ c (chaining more left budget e) → (rest : List ErrorEvent) × (c ≡ e ∷ rest) × Fills es left budget (e ∷ rest)
     unfolding chaining
-    of-chaining sound m {c} n =
+    of_chaining sound m {c} n =
         let alone : List (List ErrorEvent) = cond (eqb e.weight budget) ((e ∷ []) ∷ []) [] in
         let longer : List (List ErrorEvent) = map (λ c. e ∷ c) (more (left - e.length) (budget - e.weight)) in
-        let outer = of-guarded (fits_in left budget e) (cond (eqb e.length left) alone longer) n in
+        let outer = of_guarded (fits_in left budget e) (cond (eqb e.length left) alone longer) n in
         let fit = fits_parts left budget e outer.0 in
-        ⊎_elim (λ k. last fit.0 fit.1 k.0 k.1) (λ k. further fit.0 fit.1 k.1) (mem-choice (eqb e.length left) alone longer outer.1)
+        ⊎_elim (λ k. last fit.0 fit.1 k.0 k.1) (λ k. further fit.0 fit.1 k.1) (mem_choice (eqb e.length left) alone longer outer.1)
       where
         Begun : Type 0
         Begun = (rest : List ErrorEvent) × (c ≡ e ∷ rest) × Fills es left budget (e ∷ rest)
@@ -85,90 +85,90 @@ module _ (es : List ErrorEvent) where
         last : e.length ≤ left → e.weight ≤ budget → T (eqb e.length left) → Memᴰ c (cond (eqb e.weight budget) ((e ∷ []) ∷ []) []) → Begun
         last h g t k =
             let whole = eqb→eq e.length left t in
-            let inner = of-guarded (eqb e.weight budget) ((e ∷ []) ∷ []) k in
+            let inner = of_guarded (eqb e.weight budget) ((e ∷ []) ∷ []) k in
             let spent = eqb→eq e.weight budget inner.0 in (
               [],
               Memᴰ.eq_of_singleton inner.1,
-              fills-cons left budget e [] m h g (fills-nil (left - e.length) (budget - e.weight) (omega arith) (omega arith)),
+              fills_cons left budget e [] m h g (fills_nil (left - e.length) (budget - e.weight) (omega arith) (omega arith)),
             )
 
         further : e.length ≤ left → e.weight ≤ budget → Memᴰ c (map (λ c. e ∷ c) (more (left - e.length) (budget - e.weight))) → Begun
         further h g k =
             let found = Memᴰ.of_map (λ c. e ∷ c) (more (left - e.length) (budget - e.weight)) k in
-            (found.0, sym found.2, fills-cons left budget e found.0 m h g (sound (left - e.length) (budget - e.weight) found.0 found.1))
+            (found.0, sym found.2, fills_cons left budget e found.0 m h g (sound (left - e.length) (budget - e.weight) found.0 found.1))
 
     -- e alone
-    in-chaining-last : e.length ≡ left → e.weight ≡ budget → Memᴰ (e ∷ []) (chaining more left budget e)
+    in_chaining_last : e.length ≡ left → e.weight ≡ budget → Memᴰ (e ∷ []) (chaining more left budget e)
     unfolding chaining
-    in-chaining-last h g =
+    in_chaining_last h g =
         let longer : List (List ErrorEvent) = map (λ c. e ∷ c) (more (left - e.length) (budget - e.weight)) in
         let alone : List (List ErrorEvent) = cond (eqb e.weight budget) ((e ∷ []) ∷ []) [] in
-        let here = in-first (eqb e.weight budget) ((e ∷ []) ∷ []) [] (eqb_passes e.weight budget g) (Memᴰ.head refl) in
-        in-first (fits_in left budget e) (cond (eqb e.length left) alone longer) [] (fits_of_parts left budget e (omega arith) (omega arith))
-        (in-first (eqb e.length left) alone longer (eqb_passes e.length left h) here)
+        let here = in_first (eqb e.weight budget) ((e ∷ []) ∷ []) [] (eqb_passes e.weight budget g) (Memᴰ.head refl) in
+        in_first (fits_in left budget e) (cond (eqb e.length left) alone longer) [] (fits_of_parts left budget e (omega arith) (omega arith))
+        (in_first (eqb e.length left) alone longer (eqb_passes e.length left h) here)
 
     -- e before a chain of what is left
-    in-chaining-more : (c : List ErrorEvent) → e.length < left → e.weight ≤ budget → Memᴰ c (more (left - e.length) (budget - e.weight))
+    in_chaining_more : (c : List ErrorEvent) → e.length < left → e.weight ≤ budget → Memᴰ c (more (left - e.length) (budget - e.weight))
         → Memᴰ (e ∷ c) (chaining more left budget e)
     unfolding chaining
-    in-chaining-more c h g m =
+    in_chaining_more c h g m =
         let longer : List (List ErrorEvent) = map (λ c. e ∷ c) (more (left - e.length) (budget - e.weight)) in
         let alone : List (List ErrorEvent) = cond (eqb e.weight budget) ((e ∷ []) ∷ []) [] in
         let short : e.length ≢ left = omega arith in
-        in-first (fits_in left budget e) (cond (eqb e.length left) alone longer) [] (fits_of_parts left budget e (omega arith) (omega arith))
-        (in-second (eqb e.length left) alone longer (eqb_fails e.length left short) (Memᴰ.map (λ c. e ∷ c) m))
+        in_first (fits_in left budget e) (cond (eqb e.length left) alone longer) [] (fits_of_parts left budget e (omega arith) (omega arith))
+        (in_second (eqb e.length left) alone longer (eqb_fails e.length left short) (Memᴰ.map (λ c. e ∷ c) m))
 
-  pub of-chains : (fuel left budget : ℕ) (c : List ErrorEvent) → Memᴰ c (chains fuel es left budget) → Fills es left budget c
+  pub of_chains : (fuel left budget : ℕ) (c : List ErrorEvent) → Memᴰ c (chains fuel es left budget) → Fills es left budget c
   unfolding chains
-  of-chains zero left budget c m = absurd (Memᴰ.not-nil m)
-  of-chains (suc fuel) left budget c m =
-      let h = of-flatMap (chaining (chains fuel es) left budget) es m in
-      let k = of-chaining (chains fuel es) left budget h.0 (of-chains fuel) h.1 h.2 in
+  of_chains zero left budget c m = absurd (Memᴰ.not-nil m)
+  of_chains (suc fuel) left budget c m =
+      let h = of_flat_map (chaining (chains fuel es) left budget) es m in
+      let k = of_chaining (chains fuel es) left budget h.0 (of_chains fuel) h.1 h.2 in
       subst (Fills es left budget) (sym k.1) k.2
 
   -- the chains that begin with e, one by one
-  pub of-first : (fuel left budget : ℕ) (e : ErrorEvent) → Memᴰ e es → {c : List ErrorEvent} → Memᴰ c (chaining (chains fuel es) left budget e)
+  pub of_first : (fuel left budget : ℕ) (e : ErrorEvent) → Memᴰ e es → {c : List ErrorEvent} → Memᴰ c (chaining (chains fuel es) left budget e)
       → (rest : List ErrorEvent) × (c ≡ e ∷ rest) × Fills es left budget (e ∷ rest)
-  of-first fuel left budget e = of-chaining (chains fuel es) left budget e (of-chains fuel)
+  of_first fuel left budget e = of_chaining (chains fuel es) left budget e (of_chains fuel)
 
   module _ (some_step : (e : ErrorEvent) → Memᴰ e es → 1 ≤ e.length) where
-    pub in-chains : (fuel left budget : ℕ) (e : ErrorEvent) (c : List ErrorEvent) → left ≤ fuel → Fills es left budget (e ∷ c)
+    pub in_chains : (fuel left budget : ℕ) (e : ErrorEvent) (c : List ErrorEvent) → left ≤ fuel → Fills es left budget (e ∷ c)
         → Memᴰ (e ∷ c) (chains fuel es left budget)
     unfolding chains steps cost
-    in-chains zero left budget e c h f = absurd (omega (arith, some_step e (f.from e (Memᴰ.head refl)), f.steps_are))
-    in-chains (suc fuel) left budget e [] h f =
+    in_chains zero left budget e c h f = absurd (omega (arith, some_step e (f.from e (Memᴰ.head refl)), f.steps_are))
+    in_chains (suc fuel) left budget e [] h f =
         let s = f.steps_are in
         let w = f.cost_is in
-        in-flatMap (chaining (chains fuel es) left budget) es (f.from e (Memᴰ.head refl))
-        (in-chaining-last (chains fuel es) left budget e (omega arith) (omega arith))
-    in-chains (suc fuel) left budget e (e' ∷ c) h f =
+        in_flat_map (chaining (chains fuel es) left budget) es (f.from e (Memᴰ.head refl))
+        (in_chaining_last (chains fuel es) left budget e (omega arith) (omega arith))
+    in_chains (suc fuel) left budget e (e' ∷ c) h f =
         let s = f.steps_are in
         let w = f.cost_is in
         let some = some_step e (f.from e (Memᴰ.head refl)) in
         let some' = some_step e' (f.from e' (Memᴰ.tail (Memᴰ.head refl))) in
         let rest : Fills es (left - e.length) (budget - e.weight) (e' ∷ c) =
         record { from = λ x m. f.from x (Memᴰ.tail m); steps_are = omega arith; cost_is = omega arith } in
-        in-flatMap (chaining (chains fuel es) left budget) es (f.from e (Memᴰ.head refl))
-        (in-chaining-more (chains fuel es) left budget e (e' ∷ c) (omega arith) (omega arith)
-        (in-chains fuel (left - e.length) (budget - e.weight) e' c (omega arith) rest))
+        in_flat_map (chaining (chains fuel es) left budget) es (f.from e (Memᴰ.head refl))
+        (in_chaining_more (chains fuel es) left budget e (e' ∷ c) (omega arith) (omega arith)
+        (in_chains fuel (left - e.length) (budget - e.weight) e' c (omega arith) rest))
 
   -- ---- no repeats
 
-  chaining-distinct : (more : ℕ → ℕ → List (List ErrorEvent)) → ((l b : ℕ) → Distinct (more l b)) → (left budget : ℕ) (e : ErrorEvent)
+  chaining_distinct : (more : ℕ → ℕ → List (List ErrorEvent)) → ((l b : ℕ) → Distinct (more l b)) → (left budget : ℕ) (e : ErrorEvent)
       → Distinct (chaining more left budget e)
   unfolding chaining
-  chaining-distinct more h left budget e =
+  chaining_distinct more h left budget e =
       let rest : List (List ErrorEvent) = more (left - e.length) (budget - e.weight) in
       let alone : List (List ErrorEvent) = cond (eqb e.weight budget) ((e ∷ []) ∷ []) [] in
-      guarded-sorted (λ x y. x ≢ y) (fits_in left budget e) (cond (eqb e.length left) alone (map (λ c. e ∷ c) rest))
+      guarded_sorted (λ x y. x ≢ y) (fits_in left budget e) (cond (eqb e.length left) alone (map (λ c. e ∷ c) rest))
       (choice-sorted (λ x y. x ≢ y) (eqb e.length left) alone (map (λ c. e ∷ c) rest)
-      (guarded-sorted (λ x y. x ≢ y) (eqb e.weight budget) ((e ∷ []) ∷ []) (λ y m. absurd (Memᴰ.not-nil m), tt))
+      (guarded_sorted (λ x y. x ≢ y) (eqb e.weight budget) ((e ∷ []) ∷ []) (λ y m. absurd (Memᴰ.not-nil m), tt))
       (map-sorted (λ x y. x ≢ y) (λ x y. x ≢ y) (λ c. e ∷ c) (λ x y n p. n (tail-eq_of_cons-eq p)) rest (h (left - e.length) (budget - e.weight))))
 
-  pub chains-distinct : Distinct es → (fuel left budget : ℕ) → Distinct (chains fuel es left budget)
+  pub chains_distinct : Distinct es → (fuel left budget : ℕ) → Distinct (chains fuel es left budget)
   unfolding chains
-  chains-distinct s zero left budget = tt
-  chains-distinct s (suc fuel) left budget =
-      flatMap-sorted-on (λ x y. x ≢ y) (λ x y. x ≢ y) (chaining (chains fuel es) left budget) es s
-      (λ e m. chaining-distinct (chains fuel es) (chains-distinct s fuel) left budget e)
-      (λ e e' m m' n c c' k k' p. n (head-eq_of_cons-eq (sym (of-first fuel left budget e m k).1 ∙ p ∙ (of-first fuel left budget e' m' k').1)))
+  chains_distinct s zero left budget = tt
+  chains_distinct s (suc fuel) left budget =
+      flat_map_sorted-on (λ x y. x ≢ y) (λ x y. x ≢ y) (chaining (chains fuel es) left budget) es s
+      (λ e m. chaining_distinct (chains fuel es) (chains_distinct s fuel) left budget e)
+      (λ e e' m m' n c c' k k' p. n (head-eq_of_cons-eq (sym (of_first fuel left budget e m k).1 ∙ p ∙ (of_first fuel left budget e' m' k').1)))

@@ -85,45 +85,45 @@ module _ (counts : List ℕ) (w : ℕ) (table : List ℕ) where
   abbrev found : List ℕ
   found = take (2 * of_weight w counts) (drop (2 * paths_to counts (w - 1)) table)
 
-  fits-of : (b : Bool) → part_fits counts w table ≡ b → (part_of counts w table ≡ cond b found []) × (part_number counts w table ≡ cond b 0 10)
+  fits_of : (b : Bool) → part_fits counts w table ≡ b → (part_of counts w table ≡ cond b found []) × (part_number counts w table ≡ cond b 0 10)
   unfolding part_of part_number
-  fits-of b e = (ap (λ (x : Bool). cond x found []) e, ap (λ (x : Bool). cond x 0 10) e)
+  fits_of b e = (ap (λ (x : Bool). cond x found []) e, ap (λ (x : Bool). cond x 0 10) e)
 
   -- nothing, and 10
   abbrev pub Refused : Type 0
   Refused = ([] ≡ part_of counts w table) × (10 ≡ part_number counts w table)
 
-  refused-of : part_fits counts w table ≡ false → Refused
-  refused-of e = (sym (fits-of false e).0, sym (fits-of false e).1)
+  refused_of : part_fits counts w table ≡ false → Refused
+  refused_of e = (sym (fits_of false e).0, sym (fits_of false e).1)
 
-  pub no-weight-0 : w ≡ 0 → Refused
+  pub no_weight_0 : w ≡ 0 → Refused
   unfolding part_fits from_to
-  no-weight-0 h = refused-of (sym (and_no _ _ (sym (and_no _ _ (lt-leb 1 w (omega arith))))))
+  no_weight_0 h = refused_of (sym (and_no _ _ (sym (and_no _ _ (lt-leb 1 w (omega arith))))))
 
-  pub no-count : 1 ≤ w → length counts < w → Refused
+  pub no_count : 1 ≤ w → length counts < w → Refused
   unfolding part_fits from_to
-  no-count some h = refused-of (sym (and_no _ _ (sym (and_yes _ _ (le-leb 1 w some)) ∙ lt-leb w (length counts) h)))
+  no_count some h = refused_of (sym (and_no _ _ (sym (and_yes _ _ (le-leb 1 w some)) ∙ lt-leb w (length counts) h)))
 
   module _ (some : 1 ≤ w) (counted : w ≤ length counts) where
     -- once the weight has a count, the table decides
-    by-table : leb (2 * paths_to counts w) (length table) ≡ part_fits counts w table
+    by_table : leb (2 * paths_to counts w) (length table) ≡ part_fits counts w table
     unfolding part_fits from_to
-    by-table = and_yes _ _ (sym (and_yes _ _ (le-leb 1 w some)) ∙ le-leb w (length counts) counted)
+    by_table = and_yes _ _ (sym (and_yes _ _ (le-leb 1 w some)) ∙ le-leb w (length counts) counted)
 
     too_long : length table < 2 * paths_to counts w → Refused
-    too_long l = refused-of (sym by-table ∙ lt-leb (2 * paths_to counts w) (length table) l)
+    too_long l = refused_of (sym by_table ∙ lt-leb (2 * paths_to counts w) (length table) l)
 
     -- what the sum up to the limit says
     module _ (x : ℕ) (e : x ≡ sum_or counts (w - 1) (length table / 2)) where
-      pub starts-past : length table / 2 < x → Refused
-      starts-past l =
+      pub starts_past : length table / 2 < x → Refused
+      starts_past l =
           let p = sum_past_limit counts (w - 1) (length table / 2) x e l in
           let here = to_weight counts w some in
           too_long (omega arith)
 
       module _ (l : x ≤ length table / 2) where
-        pub ends-past : length table / 2 - x < of_weight w counts → Refused
-        ends-past q =
+        pub ends_past : length table / 2 - x < of_weight w counts → Refused
+        ends_past q =
             let b = sum_within counts (w - 1) (length table / 2) x e l in
             let here = to_weight counts w some in
             too_long (omega arith)
@@ -133,6 +133,6 @@ module _ (counts : List ℕ) (w : ℕ) (table : List ℕ) where
         fits q =
             let b = sum_within counts (w - 1) (length table / 2) x e l in
             let here = to_weight counts w some in
-            let f : part_fits counts w table ≡ true = sym by-table ∙ le-leb (2 * paths_to counts w) (length table) (omega arith) in
+            let f : part_fits counts w table ≡ true = sym by_table ∙ le-leb (2 * paths_to counts w) (length table) (omega arith) in
             let n : 2 * x + 2 * of_weight w counts - 2 * x ≡ 2 * of_weight w counts = omega arith in
-            (ap₂ (λ (i j : ℕ). take i (drop (2 * j) table)) n b ∙ sym (fits-of true f).0, sym (fits-of true f).1)
+            (ap₂ (λ (i j : ℕ). take i (drop (2 * j) table)) n b ∙ sym (fits_of true f).0, sym (fits_of true f).1)

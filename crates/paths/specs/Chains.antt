@@ -1,7 +1,7 @@
 -- Chains of error events (document 01: events joined one after another until the lengths sum to the steps of a word), and what the theorem of
 -- document 000 says of a word: it is, in one way only, a chain of events of its smallest state, begun so that place 0 lies inside the first event.
 -- The states are those of the word's walk round its steps; on a terminated link the zeros after the word are steps of it too, so it begins at state 0.
--- `proofs/Theorem.antt` proves it (`made-of-events`, `one_state`, `one-back`, `one-chain`). Paths and counts are defined without it.
+-- `proofs/Theorem.antt` proves it (`made_of_events`, `one_state`, `one_back`, `one_chain`). Paths and counts are defined without it.
 -- Assumes nothing.
 use Rattle.std.specs.Prelude.{ℕ, ◌+◌, ◌-◌, ◌*◌, ◌^◌, ◌≤◌, ◌<◌, ◌≡◌, ◌≢◌, true}
 use mathlib.Core.List.{List, [], ◌∷◌, Memᴰ}

@@ -21,7 +21,7 @@ unfoldable pub paths : Order → List ℕ
 paths o = flat_map (words_of_weight o) (up_from 0 o.d)
 
 -- The weights that are counted: from 1 to below the threshold. No nonzero word of an accepted order weighs 0, so the words of these weights are all
--- paths, in the same order (`paths-from-1`, proofs/FromOne.antt).
+-- paths, in the same order (`paths_from_1`, proofs/FromOne.antt).
 unfoldable pub weights : Order → List ℕ
 weights o = up_from 1 (o.d - 1)
 

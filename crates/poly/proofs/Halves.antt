@@ -10,8 +10,8 @@ use lib.ListN.{length, get_or, set, replicate, length-append}
 use lib.Pow.{pow-add, pow_mono, high}
 use lib.Seq.{sets}
 use Rattle.lists.specs.Lists.{padded}
-use Rattle.lists.proofs.Blocks.{flatMap-one, flatMap-append}
-use Rattle.lists.proofs.Stores.{sets-append, sets-cleared}
+use Rattle.lists.proofs.Blocks.{flat_map_one, flat_map_append}
+use Rattle.lists.proofs.Stores.{sets_append, sets_cleared}
 use Rattle.poly.specs.Poly.{bit}
 use Rattle.poly.specs.Word.{halves}
 use Rattle.poly.proofs.Bits.{bit_low}
@@ -65,11 +65,11 @@ stored-halves size ws u h =
     let xs : List ℕ = flat_map halves ws in
     let n : length xs ≡ 2 * length ws = length-halves ws in
     let n' : length (flat_map halves (ws ++ (u ∷ []))) ≡ 2 * length ws + 2 = length-halves (ws ++ (u ∷ [])) ∙ ap (λ (k : ℕ). 2 * k) (length-append ws (u ∷ [])) ∙ twice (length ws) in
-    ap₂ (λ (t : List ℕ) (k : ℕ). set (set t k (u % 2 ^ 64)) (k + 1) (u / 2 ^ 64)) (sym (sets-cleared size 0 xs (omega arith))) (sym n ∙ sym (zero-add (length xs)))
+    ap₂ (λ (t : List ℕ) (k : ℕ). set (set t k (u % 2 ^ 64)) (k + 1) (u / 2 ^ 64)) (sym (sets_cleared size 0 xs (omega arith))) (sym n ∙ sym (zero-add (length xs)))
     ∙ stores (sets (replicate size 0) 0 xs) (0 + length xs) u
-    ∙ sym (sets-append (replicate size 0) 0 xs (halves u))
-    ∙ ap (sets (replicate size 0) 0) (sym (flatMap-append halves ws (u ∷ []) ∙ ap (λ (l : List ℕ). xs ++ l) (flatMap-one halves u)))
-    ∙ sets-cleared size 0 (flat_map halves (ws ++ (u ∷ []))) (omega arith)
+    ∙ sym (sets_append (replicate size 0) 0 xs (halves u))
+    ∙ ap (sets (replicate size 0) 0) (sym (flat_map_append halves ws (u ∷ []) ∙ ap (λ (l : List ℕ). xs ++ l) (flat_map_one halves u)))
+    ∙ sets_cleared size 0 (flat_map halves (ws ++ (u ∷ []))) (omega arith)
   where
     twice : (x : ℕ) → 2 * (x + 1) ≡ 2 * x + 2
     twice x = omega arith

@@ -23,10 +23,10 @@ module _ (step : ℕ → ℕ → ℕ) (rest : step 0 0 ≡ 0) where
   enough d n h = le_ind (λ (k : ℕ). digits_through step k n ≡ digits_through step n n) refl (λ k l e. one_more k n l ∙ e) d h
 
   -- all digits but the lowest first, then the lowest
-  pub horner-step : (u : ℕ) → horner step u ≡ step (horner step (u / 2)) (u % 2)
+  pub horner_step : (u : ℕ) → horner step u ≡ step (horner step (u / 2)) (u % 2)
   unfolding horner digits_through
-  horner-step zero = sym rest
-  horner-step (suc u) = ap (λ (x : ℕ). step x (suc u % 2)) (enough u (suc u / 2) (half_le (le_refl (suc u))))
+  horner_step zero = sym rest
+  horner_step (suc u) = ap (λ (x : ℕ). step x (suc u % 2)) (enough u (suc u / 2) (half_le (le_refl (suc u))))
 
 pub horner_zero : (step : ℕ → ℕ → ℕ) → horner step 0 ≡ 0
 unfolding horner digits_through
@@ -43,7 +43,7 @@ horner_⊕ step rest linear =
     bin_ind (λ (n : ℕ). (b : ℕ) → horner step (n ⊕ b) ≡ horner step n ⊕ horner step b)
     (λ b. ap (horner step) (⊕_zero_l b) ∙ sym (ap (λ (x : ℕ). x ⊕ horner step b) (horner_zero step) ∙ ⊕_zero_l (horner step b)))
     (λ n ih b.
-    horner-step step rest (n ⊕ b)
+    horner_step step rest (n ⊕ b)
     ∙ ap₂ step (ap (horner step) (half_⊕ n b) ∙ ih (b / 2)) (mod2_⊕ n b)
     ∙ linear (horner step (n / 2)) (horner step (b / 2)) (n % 2) (b % 2) (mod2_lt n) (mod2_lt b)
-    ∙ sym (ap₂ (λ (x y : ℕ). x ⊕ y) (horner-step step rest n) (horner-step step rest b)))
+    ∙ sym (ap₂ (λ (x y : ℕ). x ⊕ y) (horner_step step rest n) (horner_step step rest b)))

@@ -11,7 +11,7 @@ use lib.Pow.{pow_pos, pow_mono}
 use Rattle.poly.specs.Poly.{◌⊕◌, ◌⊗◌}
 use Rattle.poly.proofs.Sum.{mod2_lt, for_bits, half_push, mod2_push, ⊕_zero_l, ⊕_zero_r, ⊕_interchange, double_⊕, halves_⊕, digit_times_⊕, differ_times, digit_times_lt, ⊕_lt}
 use Rattle.poly.proofs.Bits.{half_lt}
-use Rattle.poly.proofs.Horner.{horner-step, horner_zero, horner_⊕, LinearStep}
+use Rattle.poly.proofs.Horner.{horner_step, horner_zero, horner_⊕, LinearStep}
 
 -- the product's step, by a
 abbrev times : ℕ → ℕ → ℕ → ℕ
@@ -34,7 +34,7 @@ unfolding ◌⊗◌
 -- a · b = x·(a · (b without its lowest coefficient)) + that coefficient·a
 pub ⊗_step : (a b : ℕ) → a ⊗ b ≡ (2 * (a ⊗ (b / 2))) ⊕ (b % 2 * a)
 unfolding ◌⊗◌
-⊗_step a b = horner-step (times a) (times_rest a) b
+⊗_step a b = horner_step (times a) (times_rest a) b
 
 -- the same, read the other way: a · (x·q + c) = x·(a·q) + c·a
 pub ⊗_push : (a q c : ℕ) → c < 2 → a ⊗ (2 * q + c) ≡ (2 * (a ⊗ q)) ⊕ (c * a)

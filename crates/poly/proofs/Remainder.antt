@@ -12,7 +12,7 @@ use lib.Pow.{pow_pos}
 use Rattle.poly.specs.Poly.{bit, ◌⊕◌, ◌⊗◌, HasDegree, register, remainder, Divides}
 use Rattle.poly.proofs.Sum.{mod2_lt, bit_lt, for_bits, bit_⊕, half_push, mod2_push, ⊕_zero_l, ⊕_zero_r, ⊕_self, ⊕_assoc, ⊕_interchange, ⊕_push, ⊕_shr, eq_of_⊕_zero, double_⊕, push_⊕, halves_⊕, differ_times}
 use Rattle.poly.proofs.Bits.{bit_zero, bit_above, half_lt}
-use Rattle.poly.proofs.Horner.{horner-step, horner_zero, horner_⊕, LinearStep}
+use Rattle.poly.proofs.Horner.{horner_step, horner_zero, horner_⊕, LinearStep}
 use Rattle.poly.proofs.Product.{⊗_zero, ⊗_step, ⊗_push}
 
 -- ---- the register
@@ -38,7 +38,7 @@ remainder_zero m p = horner_zero (register m p)
 
 pub remainder_step : (m p u : ℕ) → remainder m p u ≡ register m p (remainder m p (u / 2)) (u % 2)
 unfolding remainder
-remainder_step m p u = horner-step (register m p) (register_rest m p) u
+remainder_step m p u = horner_step (register m p) (register_rest m p) u
 
 pub remainder_push : (m p u b : ℕ) → b < 2 → remainder m p (2 * u + b) ≡ register m p (remainder m p u) b
 remainder_push m p u b h =

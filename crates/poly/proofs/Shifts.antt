@@ -29,11 +29,11 @@ ltb_cong : (a b c d : ℕ) → (a < b → c < d) → (c < d → a < b) → ltb a
 ltb_cong a b c d f g =
     elim (dec_lt a b) [
       | yes h ↦ lt-ltb a b h ∙ sym (lt-ltb c d (f h))
-      | no h ↦ le-ltb a b (omega arith) ∙ sym (le-ltb c d (not-lt c d (λ l. h (g l))))
+      | no h ↦ le-ltb a b (omega arith) ∙ sym (le-ltb c d (not_lt c d (λ l. h (g l))))
     ]
   where
-    not-lt : (x y : ℕ) → (x < y → ⊥) → y ≤ x
-    not-lt x y n = omega arith
+    not_lt : (x y : ℕ) → (x < y → ⊥) → y ≤ x
+    not_lt x y n = omega arith
 
 pub below_low : (h l k p : ℕ) → h ≡ 0 → p ≡ 2 ^ k → ltb l p ≡ ltb (h * 2 ^ 64 + l) (2 ^ k)
 below_low h l k p e f = ltb_cong l p (h * 2 ^ 64 + l) (2 ^ k) (λ t. omega arith) (λ t. omega arith)

@@ -15,7 +15,7 @@ use Rattle.order.specs.Model.Accepted.{AcceptedWhole}
 use Rattle.order.specs.declared.record.OrderRecord.{OrderRecord}
 use Rattle.order.specs.declared.record.Reading.{Reading}
 use Rattle.order.proofs.FirstNo.{none_in_parts, first_no_none, first_no_yes, refused_later}
-use Rattle.order.proofs.Asked.{numbered-order, length-order_in, accepted_whole}
+use Rattle.order.proofs.Asked.{numbered_order, length-order_in, accepted_whole}
 use Rattle.order.proofs.Records.{record_numbered, order_of_record}
 use Rattle.jobs.specs.declared.Job.TheVariants as J
 use Rattle.calls.specs.Calls.{job_questions, questions}
@@ -52,12 +52,12 @@ module _ (bytes : List ℕ) where
           }
       by (suc k) e = record { refusal = λ _. refl; order = λ z. absurd (omega (arith, z)) }
 
-  pub read-refused : (r : Reading) → r ≡ reading_of (read bytes) → (r.refusal ≡ 0 → ⊥) → refusal_text r.refusal ≡ printed bytes
-  read-refused r e n = (subst (λ (x : Reading). Known x (printed bytes)) (sym e) known).refusal n
+  pub read_refused : (r : Reading) → r ≡ reading_of (read bytes) → (r.refusal ≡ 0 → ⊥) → refusal_text r.refusal ≡ printed bytes
+  read_refused r e n = (subst (λ (x : Reading). Known x (printed bytes)) (sym e) known).refusal n
 
-  pub read-accepted : (r : Reading) → r ≡ reading_of (read bytes) → r.refusal ≡ 0
+  pub read_accepted : (r : Reading) → r ≡ reading_of (read bytes) → r.refusal ≡ 0
       → Passed (order_in r.order) × (printed_search (order_in r.order) (search_call (order_in r.order) lent) ≡ printed bytes)
-  read-accepted r e z = (subst (λ (x : Reading). Known x (printed bytes)) (sym e) known).order z
+  read_accepted r e z = (subst (λ (x : Reading). Known x (printed bytes)) (sym e) known).order z
 
 -- ---- what follows for an order that was read
 
@@ -66,14 +66,14 @@ module _ (o : OrderRecord) (read : first_no (order_questions everything (order_i
   whole = accepted_whole (order_in o) read
 
   -- no question of the search says no: its lists have room
-  pub none-asked : (plain undetected : ℕ) → 63 ≤ plain → 63 ≤ undetected → first_no (search_questions (order_in o) plain undetected work_size) ≡ 0
+  pub none_asked : (plain undetected : ℕ) → 63 ≤ plain → 63 ≤ undetected → first_no (search_questions (order_in o) plain undetected work_size) ≡ 0
   unfolding search_questions questions job_questions with_length
-  none-asked plain undetected p u =
+  none_asked plain undetected p u =
       let d = (order_in o).d in
       let most = whole.order.threshold.at_most_64 in
       let rooms = first_no_yes (room (d - 1) plain) _ (le-leb (d - 1) plain (omega (arith, p, most))) ∙ first_no_yes (room (d - 1) undetected) _ (le-leb (d - 1) undetected (omega (arith, u, most)))
       ∙ first_no_yes (room work_size work_size) _ (le-leb work_size work_size (le_refl work_size)) ∙ first_no_none in
-      sym (refused_later (order_questions everything (order_in o)) (job_questions J.Choose (order_in o).m (d - 1) plain undetected work_size) 0 0 (numbered-order everything (order_in o)) (sym read) refl (sym rooms))
+      sym (refused_later (order_questions everything (order_in o)) (job_questions J.Choose (order_in o).m (d - 1) plain undetected work_size) 0 0 (numbered_order everything (order_in o)) (sym read) refl (sym rooms))
 
   pub row_room : (plain undetected size : ℕ) → 63 ≤ plain → 63 ≤ undetected → 4096 ≤ size → RowAccepted o.n o.d plain undetected size
   unfolding order_in

@@ -1,6 +1,6 @@
 -- What quoting a shorter length answers and leaves (document 02, C-13: collect long, quote short): events are collected for words of N bits, the length of
 -- the order, and the row is the one for words of N' bits, at most N. For every order, every N' and whatever tables are lent.
--- Question 5 is asked of both lengths, 13 of N, 14 of N'; else they are those of the search for N', but that 2 wants a tail_biting link.
+-- Question 5 is asked of both lengths, 13 of N, 14 of N'; else they are those of the search for N', but that 2 wants a tail-biting link.
 -- Assumes nothing.
 use Rattle.std.specs.Prelude.{ℕ, true, cond, List, [], leb}
 use Rattle.order.specs.Questions.{Question, longest_word}
@@ -16,7 +16,7 @@ use Rattle.calls.specs.Calls.{Call, questions, call}
 unfoldable pub longest_quoted : ℕ → ℕ
 longest_quoted N = cond (leb N longest_word) N 0
 
--- what is taken of an order of N bits: tail_biting links alone, lengths up to N, and everything else
+-- what is taken of an order of N bits: tail-biting links alone, lengths up to N, and everything else
 abbrev pub quotable : ℕ → Takes
 quotable N = record { versions = 1; longest = longest_quoted N; degree = true; threshold = true }
 

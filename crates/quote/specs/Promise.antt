@@ -1,4 +1,4 @@
--- What quoting promises: of a tail_biting link, where N' is at most N and question 13 passes for N, the row or the refusal is the one that a fresh run for N' gives; and demand 3,
+-- What quoting promises: of a tail-biting link, where N' is at most N and question 13 passes for N, the row or the refusal is the one that a fresh run for N' gives; and demand 3,
 -- of N'. `quote_promise` (proofs/Fresh.antt) proves it of the definition of the call, and `quote_promises` of what the function itself answers and leaves.
 -- Assumes nothing.
 use Rattle.std.specs.Prelude.{ℕ, ◌≤◌, ◌≡◌, ◌↔◌, length}
@@ -10,7 +10,7 @@ use Rattle.jobs.specs.Jobs.{SearchTables}
 use Rattle.search.specs.Calls.{search_call}
 use Rattle.search.specs.Promise.{NoneRefuses, NamesBest}
 
--- the link is tail_biting, N' is at most N, and of the questions that are about N alone, neither 5 nor 13 refuses
+-- the link is tail-biting, N' is at most N, and of the questions that are about N alone, neither 5 nor 13 refuses
 pub record MayQuote (o : Order) (N' : ℕ) (lent : SearchTables) : Type 0 where
   pub tail_biting : o.version ≡ 1
   pub no_longer : N' ≤ o.N

@@ -26,7 +26,7 @@ fn longest_quoted(bits: u64) -> u64
     0
 }
 
-// The plan: tail_biting links, lengths up to the order's own, and everything.
+// The plan: tail-biting links, lengths up to the order's own, and everything.
 fn quoting(order: OrderRecord, bits: u64) -> Plan
     ensures { result ≡ record { order = order; takes = quotable order.bits; bits = bits; shorter = none_shorter; job = Job.Choose } }
 {

@@ -14,7 +14,7 @@ use lib.Dec.{ltb, lt→ltb}
 use lib.ListN.{length}
 use lib.Pow.{pow_pos}
 use Rattle.lists.specs.Lists.{up_from, filter}
-use Rattle.lists.proofs.Choices.{cond-true}
+use Rattle.lists.proofs.Choices.{cond_true}
 use Rattle.poly.specs.Poly.{bit}
 use Rattle.poly.proofs.Bits.{bit_zero, from_bits_cong, from_bits_bits}
 use Rattle.code.specs.Trellis.{place, rotate}
@@ -77,7 +77,7 @@ none_of_zero N r (suc k) = rw (rotate_of_zero) (none_of_zero N (suc r) k)
 from_more : (N r k c : ℕ) → 0 < rotate N r c → turns_from N r (suc k) c ≡ rotate N r c ∷ turns_from N (suc r) k c
 unfolding turns_from up_from filter
 from_more N r k c h =
-    cond-true (ltb 0 (rotate N r c)) (rotate N r c ∷ turns_from N (suc r) k c) (turns_from N (suc r) k c) (lt→ltb 0 (rotate N r c) h)
+    cond_true (ltb 0 (rotate N r c)) (rotate N r c ∷ turns_from N (suc r) k c) (turns_from N (suc r) k c) (lt→ltb 0 (rotate N r c) h)
 
 -- ---- what the loop cites
 

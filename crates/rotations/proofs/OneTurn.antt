@@ -80,12 +80,12 @@ double N p = ap (λ (x : ℕ). 2 ^ x) (before N p) ∙ pow-succ' 2 (N - 1)
 
 -- words of up to 64 bits: the high half is 0, and the bit goes into the low half
 module _ (N h l : ℕ) (pos : 0 < N) (small : h * 2 ^ 64 + l < 2 ^ N) (few : N ≤ 64) where
-  no-high : h ≡ 0
-  no-high = let top : 2 ^ N ≤ 2 ^ 64 = pow_mono few in omega arith
+  no_high : h ≡ 0
+  no_high = let top : 2 ^ N ≤ 2 ^ 64 = pow_mono few in omega arith
 
-  pub short-fits : l / 2 + h * 2 ^ 63 % 2 ^ 64 + l % 2 * 2 ^ (N - 1) % 2 ^ 64 < 2 ^ 64
-  short-fits =
-      let none : h ≡ 0 = no-high in
+  pub short_fits : l / 2 + h * 2 ^ 63 % 2 ^ 64 + l % 2 * 2 ^ (N - 1) % 2 ^ 64 < 2 ^ 64
+  short_fits =
+      let none : h ≡ 0 = no_high in
       let top : 2 ^ N ≤ 2 ^ 64 = pow_mono few in
       let two : 2 ^ N ≡ 2 * 2 ^ (N - 1) = double N pos in
       let up : l % 2 * 2 ^ (N - 1) % 2 ^ 64 ≡ l % 2 * 2 ^ (N - 1) = moved (l % 2) (N - 1) (mod2_lt l) (omega arith) in
@@ -95,8 +95,8 @@ module _ (N h l : ℕ) (pos : 0 < N) (small : h * 2 ^ 64 + l < 2 ^ N) (few : N �
       sum : (x y z w p : ℕ) → x < p → y ≡ 0 → z ≡ w → w ≤ p → 2 * p ≤ 2 ^ 64 → x + y + z < 2 ^ 64
       sum x y z w p a b c d e = omega arith
 
-  pub short-turn : h / 2 * 2 ^ 64 + (l / 2 + h * 2 ^ 63 % 2 ^ 64 + l % 2 * 2 ^ (N - 1) % 2 ^ 64) ≡ rotate N 1 (h * 2 ^ 64 + l)
-  short-turn =
+  pub short_turn : h / 2 * 2 ^ 64 + (l / 2 + h * 2 ^ 63 % 2 ^ 64 + l % 2 * 2 ^ (N - 1) % 2 ^ 64) ≡ rotate N 1 (h * 2 ^ 64 + l)
+  short_turn =
       regroup (h / 2 * 2 ^ 64) (l / 2 + h * 2 ^ 63 % 2 ^ 64) (l % 2 * 2 ^ (N - 1) % 2 ^ 64)
       ∙ ap₂ (λ (x y : ℕ). x + y) (halved h l) (moved (l % 2) (N - 1) (mod2_lt l) (omega arith) ∙ ap (λ (x : ℕ). x * 2 ^ (N - 1)) (low_parity h l))
       ∙ sym (rotate_one N (h * 2 ^ 64 + l) pos small)
@@ -112,8 +112,8 @@ module _ (N h l : ℕ) (small : h * 2 ^ 64 + l < 2 ^ N) (many : 64 < N) (most : 
       split : (x : ℕ) → 64 < x → x - 1 ≡ x - 65 + 64
       split x p = omega arith
 
-  pub long-fits : h / 2 + l % 2 * 2 ^ (N - 65) % 2 ^ 64 < 2 ^ 64
-  long-fits =
+  pub long_fits : h / 2 + l % 2 * 2 ^ (N - 65) % 2 ^ 64 < 2 ^ 64
+  long_fits =
       let two : 2 ^ N ≡ 2 * 2 ^ (N - 1) = double N (some N many) in
       let high : 2 ^ (N - 1) ≡ 2 ^ (N - 65) * 2 ^ 64 = high_power in
       let top : 2 ^ (N - 65) ≤ 2 ^ 63 = pow_mono (fewer N most) in
@@ -136,8 +136,8 @@ module _ (N h l : ℕ) (small : h * 2 ^ 64 + l < 2 ^ N) (many : 64 < N) (most : 
       sum : (x z w p : ℕ) → x < p → z ≡ w → w ≤ p → p ≤ 2 ^ 63 → x + z < 2 ^ 64
       sum x z w p a b c d = omega arith
 
-  pub long-turn : (h / 2 + l % 2 * 2 ^ (N - 65) % 2 ^ 64) * 2 ^ 64 + (l / 2 + h * 2 ^ 63 % 2 ^ 64) ≡ rotate N 1 (h * 2 ^ 64 + l)
-  long-turn =
+  pub long_turn : (h / 2 + l % 2 * 2 ^ (N - 65) % 2 ^ 64) * 2 ^ 64 + (l / 2 + h * 2 ^ 63 % 2 ^ 64) ≡ rotate N 1 (h * 2 ^ 64 + l)
+  long_turn =
       regroup (h / 2) (l % 2 * 2 ^ (N - 65) % 2 ^ 64) (l / 2 + h * 2 ^ 63 % 2 ^ 64)
       ∙ ap₂ (λ (x y : ℕ). x + y) (halved h l)
       (ap (λ (x : ℕ). x * 2 ^ 64) (moved (l % 2) (N - 65) (mod2_lt l) (omega arith))

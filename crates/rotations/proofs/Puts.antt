@@ -11,7 +11,7 @@ use lib.Dec.{T, ltb, ltb→lt, lt→ltb, not_T}
 use lib.ListN.{length, set, length-set, length-append}
 use lib.Pow.{low, high}
 use Rattle.lists.specs.Lists.{padded}
-use Rattle.lists.proofs.Choices.{cond-true, cond-false}
+use Rattle.lists.proofs.Choices.{cond_true, cond_false}
 use Rattle.lists.proofs.Lengths.{length-padded}
 use Rattle.poly.specs.Word.{halves}
 use Rattle.poly.proofs.Halves.{length-halves, stored-halves}
@@ -22,12 +22,12 @@ use Rattle.rotations.specs.Model.Put.{stored, put, puts}
 
 pub put_inside : (u : ℕ) (t : List ℕ) (at : ℕ) → at < path_room (length t) → put u (t, at) ≡ (stored t at u, at + 1)
 unfolding put
-put_inside u t at h = cond-true (ltb at (path_room (length t))) (stored t at u, at + 1) (t, path_room (length t) + 1) (lt→ltb at (path_room (length t)) h)
+put_inside u t at h = cond_true (ltb at (path_room (length t))) (stored t at u, at + 1) (t, path_room (length t) + 1) (lt→ltb at (path_room (length t)) h)
 
 pub put_outside : (u : ℕ) (t : List ℕ) (at : ℕ) → path_room (length t) ≤ at → put u (t, at) ≡ (t, path_room (length t) + 1)
 unfolding put
 put_outside u t at h =
-    cond-false (ltb at (path_room (length t))) (stored t at u, at + 1) (t, path_room (length t) + 1)
+    cond_false (ltb at (path_room (length t))) (stored t at u, at + 1) (t, path_room (length t) + 1)
     (not_T (ltb at (path_room (length t))) (λ l. past at (path_room (length t)) h (ltb→lt at (path_room (length t)) l)))
   where
     past : (x y : ℕ) → y ≤ x → x < y → ⊥

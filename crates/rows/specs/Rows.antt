@@ -1,6 +1,6 @@
 -- Document 01's rows marked ●, as document 02 (C-11 to C-17) left them, as one table: what is asked, and every figure of the answer. `proofs/Hold.antt` has
 -- the one theorem, that each line's figures are what the definitions give. Where a document leaves a figure out, the line states it all the same.
--- Polynomials are in hexadecimal, the rest in decimal, as in the document. Code S has v = 1 and generators 1, 3. Links are tail_biting where it is not
+-- Polynomials are in hexadecimal, the rest in decimal, as in the document. Code S has v = 1 and generators 1, 3. Links are tail-biting where it is not
 -- said that they are terminated.
 -- Assumes nothing.
 use Rattle.std.specs.Prelude.{ℕ, ◌-◌, ◌*◌, List, [], ◌∷◌, length, replicate}
@@ -93,7 +93,7 @@ line_of o answer es us plain undetected = (
   figures (record { answer = answer; events = es; paths = us; plain = plain; undetected = undetected }),
 )
 
--- of a tail_biting link
+-- of a tail-biting link
 abbrev line : (v N m d : ℕ) → List ℕ → Answer Row → List ErrorEvent → List ℕ → List ℕ → List ℕ → Line
 line v N m d gs = line_of (order 1 v N m d gs)
 
@@ -170,7 +170,7 @@ rows =
     -- 5, 3 with v=2: refusal 16; 13, 17 (octal) pass
     ∷ (question (order 1 2 4 2 6 (0x5 ∷ 0x3 ∷ [])), a_number 16)
     ∷ (question (order 1 3 70 6 18 (0xB ∷ 0xF ∷ [])), a_number 0)
-    -- terminated, S, N=3, m=2, d=6: 4 events, 6 paths, 0x5; word 7 weighs 5, and 3 on a tail_biting link
+    -- terminated, S, N=3, m=2, d=6: 4 events, 6 paths, 0x5; word 7 weighs 5, and 3 on a tail-biting link
     ∷ line_of (order 2 1 3 2 6 S) (accepted (found 4 6 0x5 1))
     (event 0 1 0 0 ∷ event 0 2 3 1 ∷ event 0 3 4 3 ∷ event 0 4 5 7 ∷ [])
     (1 ∷ 2 ∷ 4 ∷ 3 ∷ 6 ∷ 7 ∷ [])

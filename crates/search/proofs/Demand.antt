@@ -16,21 +16,21 @@ use Rattle.order.specs.Answers.{order_in}
 use Rattle.order.specs.Model.Accepted.{AcceptedCode, AcceptedWhole}
 use Rattle.order.specs.declared.record.OrderRecord.{OrderRecord}
 use Rattle.order.proofs.FirstNo.{none_in_parts, refused_not_accepted}
-use Rattle.order.proofs.Asked.{numbered-order, accepted_whole}
+use Rattle.order.proofs.Asked.{numbered_order, accepted_whole}
 use Rattle.events.specs.Events.{events}
 use Rattle.paths.specs.Paths.{paths}
 use Rattle.lengths.specs.Model.Noted.{AllFit}
 use Rattle.undetected.specs.Undetected.{undetected_counts, CountsUndetected}
-use Rattle.undetected.proofs.Undetected.{undetected-means-divided, undetected_of_weight}
+use Rattle.undetected.proofs.Undetected.{undetected_means_divided, undetected_of_weight}
 use Rattle.choice.specs.Choice.{choice}
-use Rattle.choice.proofs.ByWeight.{none-undetected}
+use Rattle.choice.proofs.ByWeight.{none_undetected}
 use Rattle.choice.proofs.Chosen.{choice-first-best, choice_counts}
 use Rattle.row.specs.declared.Row.{Row}
 use Rattle.row.specs.declared.Answered.{Answered}
 use Rattle.row.specs.Answered.{row, answered_as}
 use Rattle.jobs.specs.Jobs.{SearchTables, filled_search, chosen, rows_of, made, ran}
 use Rattle.calls.specs.Calls.{questions, call}
-use Rattle.calls.proofs.Outcomes.{Outcome, whole-accepts, whole-either}
+use Rattle.calls.proofs.Outcomes.{Outcome, whole_accepts, whole_either}
 use Rattle.search.specs.Calls.{search_questions, search_call}
 use Rattle.search.specs.Promise.{NoneRefuses, NamesBest, Promise}
 
@@ -49,17 +49,17 @@ module _ (o : Order) (t : SearchTables) where
 
   accepts : NoneRefuses o t → search_call o t ≡ best
   unfolding search_call search_questions call ran rows_of made AllFit with_length
-  accepts n = whole-accepts why o (o ∷ []) t best (record { questions = n.questions; events_fit = n.events_fit; paths_fit = (n.paths_fit, tt) })
+  accepts n = whole_accepts why o (o ∷ []) t best (record { questions = n.questions; events_fit = n.events_fit; paths_fit = (n.paths_fit, tt) })
 
   either : NoneRefuses o t ⊎ ((r : ℕ) × ((search_call o t).0 ≡ refused r))
   unfolding search_call search_questions call ran rows_of made AllFit with_length
-  either = ⊎_elim (λ n. inl (record { questions = n.questions; events_fit = n.events_fit; paths_fit = n.paths_fit.0 })) inr (whole-either why o (o ∷ []) t best)
+  either = ⊎_elim (λ n. inl (record { questions = n.questions; events_fit = n.events_fit; paths_fit = n.paths_fit.0 })) inr (whole_either why o (o ∷ []) t best)
 
   -- ---- accepted
 
   whole : NoneRefuses o t → AcceptedWhole o
   unfolding search_questions questions with_length
-  whole n = accepted_whole o (none_in_parts _ _ (numbered-order everything o) n.questions).0
+  whole n = accepted_whole o (none_in_parts _ _ (numbered_order everything o) n.questions).0
 
   code : NoneRefuses o t → AcceptedCode o
   code n = (whole n).order.code
@@ -68,34 +68,34 @@ module _ (o : Order) (t : SearchTables) where
   abbrev told : Row
   told = row (length (events o)) (length (paths o)) (choice o).polynomial (choice o).shared
 
-  is-accepted : NoneRefuses o t → (search_call o t).0 ≡ accepted told
+  is_accepted : NoneRefuses o t → (search_call o t).0 ≡ accepted told
   unfolding chosen
-  is-accepted n = ap (λ (x : Outcome). x.0) (accepts n)
+  is_accepted n = ap (λ (x : Outcome). x.0) (accepts n)
 
-  accepts-told : (f : Row) → (search_call o t).0 ≡ accepted f → NoneRefuses o t
-  accepts-told f same = ⊎_elim (λ n. n) (λ r. absurd (refused_not_accepted r.0 f (sym r.1 ∙ same))) either
+  accepts_told : (f : Row) → (search_call o t).0 ≡ accepted f → NoneRefuses o t
+  accepts_told f same = ⊎_elim (λ n. n) (λ r. absurd (refused_not_accepted r.0 f (sym r.1 ∙ same))) either
 
   accepts_exactly : ((f : Row) × ((search_call o t).0 ≡ accepted f)) ↔ NoneRefuses o t
-  accepts_exactly = (λ h. accepts-told h.0 h.1, λ n. (told, is-accepted n))
+  accepts_exactly = (λ h. accepts_told h.0 h.1, λ n. (told, is_accepted n))
 
-  counts-left : NoneRefuses o t → (search_call o t).1.undetected ≡ padded (length t.undetected) 0 (undetected_counts o (choice o).polynomial)
+  counts_left : NoneRefuses o t → (search_call o t).1.undetected ≡ padded (length t.undetected) 0 (undetected_counts o (choice o).polynomial)
   unfolding chosen filled_search
-  counts-left n = ap (λ (x : Outcome). x.1.undetected) (accepts n) ∙ ap (padded (length t.undetected) 0) (choice_counts o)
+  counts_left n = ap (λ (x : Outcome). x.1.undetected) (accepts n) ∙ ap (padded (length t.undetected) 0) (choice_counts o)
 
-  names-choice : NoneRefuses o t → NamesBest o t (search_call o t).1 (choice o).polynomial (choice o).shared
-  names-choice n =
+  names_choice : NoneRefuses o t → NamesBest o t (search_call o t).1 (choice o).polynomial (choice o).shared
+  names_choice n =
       record {
         best = choice-first-best o (whole n).degree.some_degree;
-        undetected = counts-left n;
-        divided = λ q c w some h. subst (CountsUndetected o q w) (sym (undetected_of_weight o q w some h)) (undetected-means-divided o q w c.0);
-        none_of_weight_0 = λ q c. subst (CountsUndetected o q 0) (none-undetected o (code n) q) (undetected-means-divided o q 0 c.0);
+        undetected = counts_left n;
+        divided = λ q c w some h. subst (CountsUndetected o q w) (sym (undetected_of_weight o q w some h)) (undetected_means_divided o q w c.0);
+        none_of_weight_0 = λ q c. subst (CountsUndetected o q 0) (none_undetected o (code n) q) (undetected_means_divided o q 0 c.0);
       }
 
   names_best : (f : Row) → (search_call o t).0 ≡ accepted f → NamesBest o t (search_call o t).1 f.polynomial f.shared
   names_best f same =
-      let n = accepts-told f same in
-      let is : told ≡ f = accepted_same (sym (is-accepted n) ∙ same) in
-      subst (λ (x : Row). NamesBest o t (search_call o t).1 x.polynomial x.shared) is (names-choice n)
+      let n = accepts_told f same in
+      let is : told ≡ f = accepted_same (sym (is_accepted n) ∙ same) in
+      subst (λ (x : Row). NamesBest o t (search_call o t).1 x.polynomial x.shared) is (names_choice n)
 
 pub demand_3 : (o : Order) (lent : SearchTables) → Promise o lent (search_call o lent).0 (search_call o lent).1
 demand_3 o t = record { names_best = names_best o t; accepts_exactly = accepts_exactly o t }

@@ -1,4 +1,4 @@
--- The questions of a set of lengths, asked part by part, and what they let the job assume (`to-make-set`).
+-- The questions of a set of lengths, asked part by part, and what they let the job assume (`to_make_set`).
 -- Assumes nothing.
 use Prim.Native.Nat.{ℕ, zero, suc, ◌+◌, ◌-◌, ◌≤◌, ◌<◌}
 use native.Mathlib.Nat.{le_refl, le_trans}
@@ -20,7 +20,7 @@ use Rattle.order.specs.Model.Accepted.{Accepted, AcceptedWhole}
 use Rattle.order.specs.declared.record.OrderRecord.{OrderRecord}
 use Rattle.order.proofs.Answers.{range}
 use Rattle.order.proofs.FirstNo.{Numbered, first_no_none, first_no_yes, first_no_no, asked, none_in_parts, refused_first, refused_later}
-use Rattle.order.proofs.Asked.{length-order_in, numbered-order, accepted_whole}
+use Rattle.order.proofs.Asked.{length-order_in, numbered_order, accepted_whole}
 use Rattle.search.specs.Calls.{search_questions}
 use Rattle.set.specs.Calls.{falling, shortest, kind_questions, length_questions, set_questions}
 
@@ -56,9 +56,9 @@ module _ (order : OrderRecord) (Ns : List ℕ) (plain undetected work s : ℕ)
   abbrev later : List Question
   later = length_questions o.v Ns ++ search_questions (with_length (shortest Ns) o) plain undetected work
 
-  kind-asked : s ≡ first_no (kind_questions o)
+  kind_asked : s ≡ first_no (kind_questions o)
   unfolding kind_questions order_in
-  kind-asked = kind_shape order.version order.n order.v s shape ∙ ap (λ (n : ℕ). first_no (kind order.version n order.v)) (sym (length-order_in order))
+  kind_asked = kind_shape order.version order.n order.v s shape ∙ ap (λ (n : ℕ). first_no (kind order.version n order.v)) (sym (length-order_in order))
 
   numbered : Numbered (kind_questions o)
   unfolding kind_questions
@@ -66,25 +66,25 @@ module _ (order : OrderRecord) (Ns : List ℕ) (plain undetected work s : ℕ)
 
   pub by_kind : (s ≡ 0 → ⊥) → Answers s
   unfolding set_questions
-  by_kind some = refused_first (kind_questions o) later s numbered kind-asked some
+  by_kind some = refused_first (kind_questions o) later s numbered kind_asked some
 
   module _ (passed : s ≡ 0) where
-    after-kind : (x : ℕ) → x ≡ first_no later → Answers x
+    after_kind : (x : ℕ) → x ≡ first_no later → Answers x
     unfolding set_questions
-    after-kind x e = refused_later (kind_questions o) later s x numbered kind-asked passed e
+    after_kind x e = refused_later (kind_questions o) later s x numbered kind_asked passed e
 
-    pub by-list : (from_to 1 8 (length Ns) && falling Ns) ≡ false → Answers 17
+    pub by_list : (from_to 1 8 (length Ns) && falling Ns) ≡ false → Answers 17
     unfolding length_questions
-    by-list e = after-kind 17 (sym (first_no_no _ _ e))
+    by_list e = after_kind 17 (sym (first_no_no _ _ e))
 
     module _ (listed : (from_to 1 8 (length Ns) && falling Ns) ≡ true) where
       pub by_length : all (from_to o.v longest_word) Ns ≡ false → Answers 5
       unfolding length_questions
-      by_length e = after-kind 5 (sym (first_no_yes _ _ listed ∙ first_no_no _ _ e))
+      by_length e = after_kind 5 (sym (first_no_yes _ _ listed ∙ first_no_no _ _ e))
 
-      pub by-search : all (from_to o.v longest_word) Ns ≡ true → (x : ℕ) → x ≡ first_no (search_questions (with_length (shortest Ns) o) plain undetected work) → Answers x
+      pub by_search : all (from_to o.v longest_word) Ns ≡ true → (x : ℕ) → x ≡ first_no (search_questions (with_length (shortest Ns) o) plain undetected work) → Answers x
       unfolding length_questions
-      by-search e x f = after-kind x (f ∙ sym (first_no_yes _ _ listed ∙ first_no_yes _ _ e))
+      by_search e x f = after_kind x (f ∙ sym (first_no_yes _ _ listed ∙ first_no_yes _ _ e))
 
 -- ---- where none refuses
 

@@ -17,23 +17,23 @@ use Rattle.order.specs.Answers.{order_in}
 use Rattle.order.specs.declared.record.OrderRecord.{OrderRecord}
 use Rattle.order.specs.Model.Accepted.{AcceptedWhole}
 use Rattle.order.proofs.FirstNo.{none_in_parts, refused_not_accepted}
-use Rattle.order.proofs.Asked.{numbered-order, accepted_whole}
+use Rattle.order.proofs.Asked.{numbered_order, accepted_whole}
 use Rattle.row.specs.declared.Row.{Row}
 use Rattle.row.specs.declared.Answered.{Answered}
 use Rattle.row.specs.Answered.{row, answered_as}
 use Rattle.events.specs.Events.{events}
 use Rattle.paths.specs.Paths.{paths, path_room}
 use Rattle.undetected.specs.Undetected.{undetected_counts, CountsUndetected}
-use Rattle.undetected.proofs.Undetected.{undetected-means-divided, undetected_of_weight}
+use Rattle.undetected.proofs.Undetected.{undetected_means_divided, undetected_of_weight}
 use Rattle.undetected.proofs.FirstUndetected.{first-weight}
 use Rattle.choice.specs.Choice.{choice_among}
 use Rattle.narrowing.specs.Narrowed.{longest, set_choice}
-use Rattle.narrowing.proofs.Narrowed.{set⇔best-of-set}
+use Rattle.narrowing.proofs.Narrowed.{set⇔best_of_set}
 use Rattle.lengths.specs.Model.Noted.{AllFit}
 use Rattle.lengths.specs.Shorter.{for_each}
 use Rattle.jobs.specs.Jobs.{SearchTables, filled_search, chosen}
 use Rattle.calls.specs.Calls.{questions, call}
-use Rattle.calls.proofs.Outcomes.{Outcome, NoRefusal, whole-accepts, whole-either}
+use Rattle.calls.proofs.Outcomes.{Outcome, NoRefusal, whole_accepts, whole_either}
 use Rattle.search.specs.Calls.{search_questions, search_call}
 use Rattle.search.proofs.Demand.{accepted_same}
 use Rattle.set.specs.Calls.{all_below, falling, shortest, kind_questions, length_questions, set_questions, set_row, set_call}
@@ -92,58 +92,58 @@ module _ (o : Order) (Ns : List ℕ) (t : SearchTables) where
   abbrev told : Row
   told = row (length (events l)) (length (paths l)) (set_choice o Ns).polynomial (set_choice o Ns).shared
 
-  none-refuses : NoneRefusesSet o Ns t → NoRefusal why l (for_each Ns o) t
-  none-refuses n = record { questions = n.questions; events_fit = n.events_fit; paths_fit = all_fit_of (length t.paths) o Ns n.paths_fit }
+  none_refuses : NoneRefusesSet o Ns t → NoRefusal why l (for_each Ns o) t
+  none_refuses n = record { questions = n.questions; events_fit = n.events_fit; paths_fit = all_fit_of (length t.paths) o Ns n.paths_fit }
 
   accepts : NoneRefusesSet o Ns t → set_call o Ns t ≡ best
   unfolding set_call set_row
-  accepts n = whole-accepts why l (for_each Ns o) t best (none-refuses n)
+  accepts n = whole_accepts why l (for_each Ns o) t best (none_refuses n)
 
   either : NoneRefusesSet o Ns t ⊎ ((r : ℕ) × ((set_call o Ns t).0 ≡ refused r))
   unfolding set_call set_row
   either = ⊎_elim
       (λ n. inl (record { questions = n.questions; events_fit = n.events_fit; paths_fit = of_all_fit (length t.paths) o Ns n.paths_fit }))
       inr
-      (whole-either why l (for_each Ns o) t best)
+      (whole_either why l (for_each Ns o) t best)
 
-  is-accepted : NoneRefusesSet o Ns t → (set_call o Ns t).0 ≡ accepted told
+  is_accepted : NoneRefusesSet o Ns t → (set_call o Ns t).0 ≡ accepted told
   unfolding chosen
-  is-accepted n = ap (λ (x : Outcome). x.0) (accepts n)
+  is_accepted n = ap (λ (x : Outcome). x.0) (accepts n)
 
-  accepts-told : (f : Row) → (set_call o Ns t).0 ≡ accepted f → NoneRefusesSet o Ns t
-  accepts-told f same = ⊎_elim (λ n. n) (λ r. absurd (refused_not_accepted r.0 f (sym r.1 ∙ same))) either
+  accepts_told : (f : Row) → (set_call o Ns t).0 ≡ accepted f → NoneRefusesSet o Ns t
+  accepts_told f same = ⊎_elim (λ n. n) (λ r. absurd (refused_not_accepted r.0 f (sym r.1 ∙ same))) either
 
-  counts-left : NoneRefusesSet o Ns t → (set_call o Ns t).1.undetected ≡ padded (length t.undetected) 0 (undetected_counts l (set_choice o Ns).polynomial)
+  counts_left : NoneRefusesSet o Ns t → (set_call o Ns t).1.undetected ≡ padded (length t.undetected) 0 (undetected_counts l (set_choice o Ns).polynomial)
   unfolding chosen filled_search set_choice choice_among
-  counts-left n = ap (λ (x : Outcome). x.1.undetected) (accepts n)
+  counts_left n = ap (λ (x : Outcome). x.1.undetected) (accepts n)
 
-  accepted-shortest : NoneRefusesSet o Ns t → AcceptedWhole (with_length (shortest Ns) o)
+  accepted_shortest : NoneRefusesSet o Ns t → AcceptedWhole (with_length (shortest Ns) o)
   unfolding search_questions questions with_length
-  accepted-shortest n =
+  accepted_shortest n =
       let q : Order = with_length (shortest Ns) o in
-      accepted_whole q (none_in_parts _ _ (numbered-order everything q) (passed o Ns _ _ _ n.questions).search).0
+      accepted_whole q (none_in_parts _ _ (numbered_order everything q) (passed o Ns _ _ _ n.questions).search).0
 
-  names-choice : NoneRefusesSet o Ns t → NamesBestOfSet o Ns t (set_call o Ns t).1 (set_choice o Ns).polynomial (set_choice o Ns).shared
+  names_choice : NoneRefusesSet o Ns t → NamesBestOfSet o Ns t (set_call o Ns t).1 (set_choice o Ns).polynomial (set_choice o Ns).shared
   unfolding longest with_length
-  names-choice n =
-      let whole = accepted-shortest n in
+  names_choice n =
+      let whole = accepted_shortest n in
       record {
-        best = (set⇔best-of-set o Ns whole.degree.some_degree _ _).0 (refl, refl);
-        undetected = counts-left n;
-        divided = λ q c w some h. subst (CountsUndetected l q w) (sym (undetected_of_weight l q w some h)) (undetected-means-divided l q w c.0);
+        best = (set⇔best_of_set o Ns whole.degree.some_degree _ _).0 (refl, refl);
+        undetected = counts_left n;
+        divided = λ q c w some h. subst (CountsUndetected l q w) (sym (undetected_of_weight l q w some h)) (undetected_means_divided l q w c.0);
         first-weights = λ N m q c. first-weight (with_length N o) q c.0 whole.order.threshold.some_weight;
       }
 
   names_best : (f : Row) → (set_call o Ns t).0 ≡ accepted f → NamesBestOfSet o Ns t (set_call o Ns t).1 f.polynomial f.shared
   names_best f same =
-      let n = accepts-told f same in
-      let is : told ≡ f = accepted_same (sym (is-accepted n) ∙ same) in
-      subst (λ (x : Row). NamesBestOfSet o Ns t (set_call o Ns t).1 x.polynomial x.shared) is (names-choice n)
+      let n = accepts_told f same in
+      let is : told ≡ f = accepted_same (sym (is_accepted n) ∙ same) in
+      subst (λ (x : Row). NamesBestOfSet o Ns t (set_call o Ns t).1 x.polynomial x.shared) is (names_choice n)
 
 pub set_promise : (o : Order) (Ns : List ℕ) (lent : SearchTables) → SetPromise o Ns lent (set_call o Ns lent).0 (set_call o Ns lent).1
 set_promise o Ns t = record {
   names_best = names_best o Ns t;
-  accepts_exactly = (λ h. accepts-told o Ns t h.0 h.1, λ n. (told o Ns t, is-accepted o Ns t n));
+  accepts_exactly = (λ h. accepts_told o Ns t h.0 h.1, λ n. (told o Ns t, is_accepted o Ns t n));
   one_length = λ N e. subst (λ (Ms : List ℕ). set_call o Ms t ≡ search_call (with_length N o) t) (sym e) (one_length-call o N t);
 }
 

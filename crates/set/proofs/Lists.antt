@@ -20,19 +20,19 @@ falling_begin [] h = absurd (omega arith)
 falling_begin (N ∷ Ns) h = refl
 
 module _ (l : List ℕ) (N i : ℕ) where
-  next-is : i < length l → all_below N (drop i l) ≡ (ltb (get_or l i 0) N && all_below (get_or l i 0) (drop (i + 1) l))
+  next_is : i < length l → all_below N (drop i l) ≡ (ltb (get_or l i 0) N && all_below (get_or l i 0) (drop (i + 1) l))
   unfolding all_below
-  next-is h = ap (all_below N) (drop-next (λ _. true) l 0 i h)
+  next_is h = ap (all_below N) (drop-next (λ _. true) l 0 i h)
 
-  pub falls-on : i < length l → get_or l i 0 < N → all_below N (drop i l) ≡ all_below (get_or l i 0) (drop (i + 1) l)
-  falls-on h less = next-is h ∙ ap (λ (b : Bool). b && all_below (get_or l i 0) (drop (i + 1) l)) (lt-ltb (get_or l i 0) N less)
+  pub falls_on : i < length l → get_or l i 0 < N → all_below N (drop i l) ≡ all_below (get_or l i 0) (drop (i + 1) l)
+  falls_on h less = next_is h ∙ ap (λ (b : Bool). b && all_below (get_or l i 0) (drop (i + 1) l)) (lt-ltb (get_or l i 0) N less)
 
   pub rises : i < length l → N ≤ get_or l i 0 → all_below N (drop i l) ≡ false
-  rises h more = next-is h ∙ ap (λ (b : Bool). b && all_below (get_or l i 0) (drop (i + 1) l)) (le-ltb (get_or l i 0) N more)
+  rises h more = next_is h ∙ ap (λ (b : Bool). b && all_below (get_or l i 0) (drop (i + 1) l)) (le-ltb (get_or l i 0) N more)
 
-  pub falls-end : length l ≤ i → all_below N (drop i l) ≡ true
+  pub falls_end : length l ≤ i → all_below N (drop i l) ≡ true
   unfolding all_below
-  falls-end h = ap (all_below N) (drop_of_length-le l h)
+  falls_end h = ap (all_below N) (drop_of_length-le l h)
 
 -- ---- what a falling list is
 

@@ -1,4 +1,4 @@
--- The plan for a set of lengths: what its questions let its job assume (`to-make-set`), and that its job makes the row of the set (`set-made`).
+-- The plan for a set of lengths: what its questions let its job assume (`to_make_set`), and that its job makes the row of the set (`set-made`).
 -- Assumes nothing.
 use Prim.Native.Nat.{ℕ, zero, suc, ◌+◌, ◌-◌, ◌≤◌, ◌<◌}
 use native.Mathlib.Nat.{le_refl, le_trans}
@@ -18,7 +18,7 @@ use Rattle.order.specs.Model.Accepted.{Accepted, AcceptedWhole}
 use Rattle.order.specs.declared.record.OrderRecord.{OrderRecord}
 use Rattle.order.specs.Model.Lengths.{NoLonger}
 use Rattle.order.proofs.FirstNo.{none_in_parts}
-use Rattle.order.proofs.Asked.{numbered-order, accepted_whole}
+use Rattle.order.proofs.Asked.{numbered_order, accepted_whole}
 use Rattle.order.proofs.Lengths.{no_longer_itself}
 use Rattle.row.specs.declared.Row.{Row}
 use Rattle.undetected.specs.Undetected.{undetected_counts}
@@ -34,7 +34,7 @@ use Rattle.jobs.specs.declared.Plan.{Plan}
 use Rattle.jobs.specs.Jobs.{SearchTables, cleared_search, unless_too_many, chosen, rows_of, made, ran}
 use Rattle.jobs.specs.Model.Steps.{row_order, ToChooseFor, ToServe, JobAsks, ToMake}
 use Rattle.calls.specs.Calls.{questions}
-use Rattle.calls.proofs.Accepts.{chosen-rooms}
+use Rattle.calls.proofs.Accepts.{chosen_rooms}
 use Rattle.search.specs.Calls.{search_questions}
 use Rattle.set.specs.Calls.{shortest, set_questions, set_row}
 use Rattle.set.specs.Model.Plans.{AfterFirst, PlannedFor}
@@ -113,14 +113,14 @@ module _ {o : Order} {Ns : List ℕ} {plan : Plan} (planned : PlannedFor o Ns pl
     unfolding search_questions questions with_length
     asks =
         let q : Order = with_length (shortest Ns) o in
-        let parts = none_in_parts _ _ (numbered-order everything q) here.search in
+        let parts = none_in_parts _ _ (numbered_order everything q) here.search in
         let whole = accepted_whole q parts.0 in
-        chosen-rooms q whole.order plan.shorter plain undetected work whole.degree parts.1
+        chosen_rooms q whole.order plan.shorter plain undetected work whole.degree parts.1
 
     -- the order is accepted for any of the lengths
-    accepted-at : (N : ℕ) → o.v ≤ N → N ≤ longest_word → Accepted (with_length N o)
+    accepted_at : (N : ℕ) → o.v ≤ N → N ≤ longest_word → Accepted (with_length N o)
     unfolding with_length
-    accepted-at N low high =
+    accepted_at N low high =
         let a = asks.0.list.order in
         record {
           code = record {
@@ -141,11 +141,11 @@ module _ {o : Order} {Ns : List ℕ} {plan : Plan} (planned : PlannedFor o Ns pl
         }
 
     at : (i : ℕ) → i < length Ns → Accepted (with_length (get_or Ns i 0) o)
-    at i h = let l = here.long i h in accepted-at (get_or Ns i 0) l.0 l.1
+    at i h = let l = here.long i h in accepted_at (get_or Ns i 0) l.0 l.1
 
-    of-longest : ToChooseFor (longest o Ns) plain undetected
+    of_longest : ToChooseFor (longest o Ns) plain undetected
     unfolding longest with_length shortest
-    of-longest =
+    of_longest =
         let a = asks.0 in
         let some = here.some in
         let first : Accepted (with_length (first_of Ns) o) = subst (λ (N : ℕ). Accepted (with_length N o)) (first_is Ns) (at 0 (omega arith)) in
@@ -173,21 +173,21 @@ module _ {o : Order} {Ns : List ℕ} {plan : Plan} (planned : PlannedFor o Ns pl
               omega arith;
         }
 
-    asked-for : JobAsks plan.job plan.shorter (longest o Ns) plain undetected
+    asked_for : JobAsks plan.job plan.shorter (longest o Ns) plain undetected
     unfolding JobAsks
-    asked-for = ⊎_elim
-        (λ one. subst (λ (job : Job). JobAsks job plan.shorter (longest o Ns) plain undetected) (sym one.1) of-longest)
-        (λ more. subst (λ (job : Job). JobAsks job plan.shorter (longest o Ns) plain undetected) (sym more.0) (of-longest, serves more.1))
+    asked_for = ⊎_elim
+        (λ one. subst (λ (job : Job). JobAsks job plan.shorter (longest o Ns) plain undetected) (sym one.1) of_longest)
+        (λ more. subst (λ (job : Job). JobAsks job plan.shorter (longest o Ns) plain undetected) (sym more.0) (of_longest, serves more.1))
         planned.job
 
-    pub to-make-set : ToMake plan plain undetected work
-    to-make-set =
+    pub to_make_set : ToMake plan plain undetected work
+    to_make_set =
         let row = row_is here.some in
         record {
-          collected = subst Accepted (sym planned.order) of-longest.list.order;
+          collected = subst Accepted (sym planned.order) of_longest.list.order;
           no_longer = subst (λ (x : Order). NoLonger x (order_in plan.order)) (planned.order ∙ sym row) (no_longer_itself (order_in plan.order));
           wide = asks.1;
-          job = subst (λ (x : Order). JobAsks plan.job plan.shorter x plain undetected) (sym row) asked-for;
+          job = subst (λ (x : Order). JobAsks plan.job plan.shorter x plain undetected) (sym row) asked_for;
         }
 
   -- ---- what is made
@@ -200,15 +200,15 @@ module _ {o : Order} {Ns : List ℕ} {plan : Plan} (planned : PlannedFor o Ns pl
     l = longest o Ns
 
     -- of one length, as the search
-    one-made : length Ns ≡ 1 → ran J.Choose (shorter_in plan.shorter) l l t ≡ set_row o Ns t
+    one_made : length Ns ≡ 1 → ran J.Choose (shorter_in plan.shorter) l l t ≡ set_row o Ns t
     unfolding longest first_of
-    one-made one =
+    one_made one =
         let e : Ns ≡ first_of Ns ∷ [] = split Ns some ∙ ap (λ (Ms : List ℕ). first_of Ns ∷ Ms) (no_rest (rest Ns) (omega (arith, length_rest Ns, one))) in
         subst (λ (Ms : List ℕ). ran J.Choose (shorter_in plan.shorter) (longest o Ms) (longest o Ms) t ≡ set_row o Ms t) (sym e) (sym (row_of_one o (first_of Ns) (shorter_in plan.shorter) t))
 
-    more-made : AfterFirst Ns plan.shorter → ran J.ChooseFor (shorter_in plan.shorter) l l t ≡ set_row o Ns t
+    more_made : AfterFirst Ns plan.shorter → ran J.ChooseFor (shorter_in plan.shorter) l l t ≡ set_row o Ns t
     unfolding longest first_of
-    more-made a =
+    more_made a =
         ap (λ (Ms : List ℕ). ran J.ChooseFor Ms l l t) (after_is Ns plan.shorter a)
         ∙ subst (λ (Ms : List ℕ). ran J.ChooseFor (rest Ns) (longest o Ms) (longest o Ms) t ≡ set_row o Ms t) (sym (split Ns some)) (row_of_more o (first_of Ns) (rest Ns) t)
 
@@ -216,6 +216,6 @@ module _ {o : Order} {Ns : List ℕ} {plan : Plan} (planned : PlannedFor o Ns pl
     set-made =
         ap₂ (λ (x y : Order). ran plan.job (shorter_in plan.shorter) x y t) planned.order (row_is some)
         ∙ ⊎_elim
-        (λ one. ap (λ (job : Job). ran job (shorter_in plan.shorter) l l t) one.1 ∙ one-made one.0)
-        (λ more. ap (λ (job : Job). ran job (shorter_in plan.shorter) l l t) more.0 ∙ more-made more.1)
+        (λ one. ap (λ (job : Job). ran job (shorter_in plan.shorter) l l t) one.1 ∙ one_made one.0)
+        (λ more. ap (λ (job : Job). ran job (shorter_in plan.shorter) l l t) more.0 ∙ more_made more.1)
         planned.job

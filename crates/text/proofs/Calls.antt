@@ -4,16 +4,16 @@ use Prim.Native.Nat.{ℕ, ◌-◌, ◌≤◌, ◌<◌}
 use native.Mathlib.Nat.{zero-add}
 use native.Mathlib.Omega.{arith}
 use mathlib.Core.Path.{◌≡◌, sym, ap, ap₂, ◌∙◌}
-use mathlib.Core.List.{List, [], ◌∷◌}
+use mathlib.Core.List.{List, []}
 use borrow.Author.Tests.{lt-leb, le-leb}
 use lib.ListN.{length, replicate}
 use lib.Seq.{sets}
-use Rattle.lists.proofs.Stores.{sets-cleared}
+use Rattle.lists.proofs.Stores.{sets_cleared}
 use Rattle.order.specs.Questions.{first_no}
 use Rattle.order.proofs.Answers.{range}
 use Rattle.order.specs.Answer.{Answer, accepted, refused, unless_refused}
 use Rattle.order.specs.Answers.{order_in}
-use Rattle.order.proofs.FirstNo.{first_no_none, first_no_yes, first_no_no, first_yes, leaves-refused, leaves-answered}
+use Rattle.order.proofs.FirstNo.{first_no_none, first_no_yes, first_no_no, first_yes, leaves_refused, leaves_answered}
 use Rattle.order.proofs.Asked.{room-told, length-order_in}
 use Rattle.order.specs.declared.record.OrderRecord.{OrderRecord}
 use Rattle.text.specs.Calls.{text_size, laid_out, row_questions, refusal_questions, refusal_call}
@@ -24,21 +24,21 @@ use Rattle.text.specs.Model.Steps.{RowAccepted, Laid}
 pub laid_as : (text buffer : List ℕ) {m : ℕ} {cleared after : List ℕ} {end : ℕ} → m ≤ length buffer → cleared ≡ replicate (length buffer) 0
     → Put m cleared 0 text after end → Laid text buffer after end
 laid_as text buffer h c p = record {
-  whole = p.stored ∙ ap (λ (l : List ℕ). sets l 0 text) c ∙ sets-cleared (length buffer) 0 text (omega (arith, p.short));
+  whole = p.stored ∙ ap (λ (l : List ℕ). sets l 0 text) c ∙ sets_cleared (length buffer) 0 text (omega (arith, p.short));
   size = p.next ∙ zero-add (length text);
 }
 
 pub written_as_lem : (k : ℕ) (text buffer : List ℕ) {after : List ℕ} {end : ℕ} → 0 ≡ k → Laid text buffer after end
     → ◌≡◌ {A = Answer ℕ × List ℕ} (accepted end, after) (unless_refused k buffer (laid_out text buffer))
 unfolding laid_out
-written_as_lem k text buffer e l = ap₂ (λ (n : ℕ) (l : List ℕ). (accepted n, l)) l.size l.whole ∙ leaves-answered buffer _ k e
+written_as_lem k text buffer e l = ap₂ (λ (n : ℕ) (l : List ℕ). (accepted n, l)) l.size l.whole ∙ leaves_answered buffer _ k e
 
 -- ---- a refusal's questions
 
 pub refusal_no_room : (number : ℕ) (buffer : List ℕ) → length buffer < 4096 → ◌≡◌ {A = Answer ℕ × List ℕ} (refused 10, buffer) (refusal_call number buffer)
 unfolding refusal_call refusal_questions text_size
 refusal_no_room number buffer h =
-    leaves-refused buffer _ 10 _ (sym (first_no_no _ [] (lt-leb 4096 (length buffer) h))) (λ e. absurd (omega arith))
+    leaves_refused buffer _ 10 _ (sym (first_no_no _ [] (lt-leb 4096 (length buffer) h))) (λ e. absurd (omega arith))
 
 pub refusal_room : (buffer : List ℕ) → 4096 ≤ length buffer → 0 ≡ first_no (refusal_questions (length buffer))
 unfolding refusal_questions text_size

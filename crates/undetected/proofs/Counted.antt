@@ -25,19 +25,19 @@ use Rattle.undetected.proofs.Counting.{up_to_within}
 -- ---- where the words of an entry stand
 
 module _ (plain : List ℕ) where
-  pub before-next : (j : ℕ) → paths_to plain (j + 1) ≡ paths_to plain j + get_or plain j 0
-  before-next j = ap (paths_to plain) (add-one j) ∙ to_more plain j
+  pub before_next : (j : ℕ) → paths_to plain (j + 1) ≡ paths_to plain j + get_or plain j 0
+  before_next j = ap (paths_to plain) (add-one j) ∙ to_more plain j
 
   -- those of entry j end where those of all end, or before
-  pub before-end : (j entries at : ℕ) → j < entries → at ≡ paths_to plain j → at + get_or plain j 0 ≤ paths_to plain entries
-  before-end j entries at h e = let s = to_mono plain (j + 1) entries (omega arith) in omega (arith, before-next j)
+  pub before_end : (j entries at : ℕ) → j < entries → at ≡ paths_to plain j → at + get_or plain j 0 ≤ paths_to plain entries
+  before_end j entries at h e = let s = to_mono plain (j + 1) entries (omega arith) in omega (arith, before_next j)
 
 -- ---- the words of one entry
 
 module _ (bits entries m p : ℕ) (table plain : List ℕ) (readable : Readable bits entries table plain) (divisor : Divisor m p) where
-  even-divided : (a b : ℕ) → even_between (check_table bits m p) m table a b ≡ divided_between m p table a b
+  even_divided : (a b : ℕ) → even_between (check_table bits m p) m table a b ≡ divided_between m p table a b
   unfolding even_between divided_between word_at
-  even-divided a b =
+  even_divided a b =
       ap (λ (f : ℕ → Bool). count f (up_from a (b - a)))
       (fun_ext
       (λ k. all-even_divided bits m p (get_or table (2 * k) 0) (get_or table (2 * k + 1) 0) divisor.modulus.degree
@@ -50,7 +50,7 @@ module _ (bits entries m p : ℕ) (table plain : List ℕ) (readable : Readable 
   counted-weight rows j at r er ea e =
       let all : ℕ = get_or plain j 0 in
       let same : even_between rows m table at (at + all) ≡ divided_of m p table plain j =
-      ap₂ (λ (l : List ℕ) (x : ℕ). even_between l m table x (x + all)) er ea ∙ even-divided (paths_to plain j) (paths_to plain j + all) in
+      ap₂ (λ (l : List ℕ) (x : ℕ). even_between l m table x (x + all)) er ea ∙ even_divided (paths_to plain j) (paths_to plain j + all) in
       let few = between_le (λ k. eqb (remainder m p (word_at table k)) 0) (paths_to plain j) (paths_to plain j + all) in
       e ∙ ap (up_to all) same ∙ sym (up_to_within all (divided_of m p table plain j) (omega arith))
 
@@ -75,12 +75,12 @@ module _ (m p : ℕ) (table plain : List ℕ) where
         let goes_on = length-map-up_from (divided_of m p table plain) first (j - first) in
         omega (arith, length-append (take first l) (map (divided_of m p table plain) (up_from first (j - first))))
 
-    as-front : counted_from m p table plain first j l ≡ front ++ drop j l
+    as_front : counted_from m p table plain first j l ≡ front ++ drop j l
     unfolding counted_from front
-    as-front = sym (append_assoc (take first l) (map (divided_of m p table plain) (up_from first (j - first))) (drop j l))
+    as_front = sym (append_assoc (take first l) (map (divided_of m p table plain) (up_from first (j - first))) (drop j l))
 
     pub length-counted : j ≤ length l → length (counted_from m p table plain first j l) ≡ length l
-    length-counted h = let e = length_front h in omega (arith, ap length as-front, length-append front (drop j l), length-drop j l)
+    length-counted h = let e = length_front h in omega (arith, ap length as_front, length-append front (drop j l), length-drop j l)
 
     pub counted_next : (x : ℕ) → j < length l → x ≡ divided_of m p table plain j
         → set (counted_from m p table plain first j l) j x ≡ counted_from m p table plain first (j + 1) l
@@ -93,7 +93,7 @@ module _ (m p : ℕ) (table plain : List ℕ) where
         ap (λ (n : ℕ). map f (up_from first n)) g ∙ ap (map f) (up_from_last first (j - first))
         ∙ map-append f (up_from first (j - first)) ((first + (j - first)) ∷ [])
         ∙ ap (λ (n : ℕ). map f (up_from first (j - first)) ++ (f n ∷ [])) i in
-        ap (λ (r : List ℕ). set r j x) (as-front ∙ ap (λ (r : List ℕ). front ++ r) (drop-cons l j 0 h))
+        ap (λ (r : List ℕ). set r j x) (as_front ∙ ap (λ (r : List ℕ). front ++ r) (drop-cons l j 0 h))
         ∙ set_at front (get_or l j 0) (drop (suc j) l) x j (length_front (omega arith))
         ∙ ap₂ (λ (y k : ℕ). front ++ y ∷ drop k l) e (sym (add-one j))
         ∙ sym (append_snoc front (f j) (drop (j + 1) l))

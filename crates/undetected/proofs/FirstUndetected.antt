@@ -14,7 +14,7 @@ use Rattle.poly.specs.Poly.{HasDegree}
 use Rattle.order.specs.Order.{Order, of_weight}
 use Rattle.undetected.specs.Undetected.{undetected_count, undetected_counts, CountsUndetected}
 use Rattle.undetected.specs.FirstUndetected.{first_above0, first_undetected, FirstWeight}
-use Rattle.undetected.proofs.Undetected.{undetected-means-divided, length-undetectedCounts, undetected_of_weight}
+use Rattle.undetected.proofs.Undetected.{undetected_means_divided, length-undetected_counts, undetected_of_weight}
 
 -- ---- of any counts, from weight w on
 
@@ -81,16 +81,16 @@ first_to w cs = (first_at w cs).at_most
 
 pub first_at_most : (o : Order) (p : ℕ) → 1 ≤ o.d → first_undetected o p ≤ o.d
 unfolding first_undetected
-first_at_most o p some-d = omega (arith, first_to 1 (undetected_counts o p), length-undetectedCounts o p)
+first_at_most o p some-d = omega (arith, first_to 1 (undetected_counts o p), length-undetected_counts o p)
 
 pub first-weight : (o : Order) (p : ℕ) → HasDegree o.m p → 1 ≤ o.d → FirstWeight o p (first_undetected o p)
 unfolding first_undetected of_weight
 first-weight o p degree some-d =
     let a = first_at 1 (undetected_counts o p) in
-    let n = length-undetectedCounts o p in
+    let n = length-undetected_counts o p in
     let low = a.from in
     let high = a.at_most in
-    let means : (x : ℕ) → CountsUndetected o p x (undetected_count o p x) = λ x. undetected-means-divided o p x degree in
+    let means : (x : ℕ) → CountsUndetected o p x (undetected_count o p x) = λ x. undetected_means_divided o p x degree in
     let w : ℕ = first_above0 1 (undetected_counts o p) in
     record {
       none_lighter = λ x l h. subst (CountsUndetected o p x) (sym (undetected_of_weight o p x l (omega arith)) ∙ a.zeros (x - 1) (omega arith)) (means x);

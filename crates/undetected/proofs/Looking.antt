@@ -13,7 +13,7 @@ use Rattle.paths.proofs.Parts.{sum_none}
 use Rattle.undetected.specs.FirstUndetected.{first_above0}
 use Rattle.undetected.specs.Model.Steps.{divided_of, divided_counts, even_between, up_to, Readable}
 use Rattle.undetected.proofs.Counting.{up_to_within, up_to_past}
-use Rattle.undetected.proofs.Counted.{before-next, counted-weight}
+use Rattle.undetected.proofs.Counted.{before_next, counted-weight}
 use Rattle.undetected.proofs.FirstUndetected.{first_zero, first_some}
 
 -- ---- the first of values in a row
@@ -47,12 +47,12 @@ module _ (bits entries m p : ℕ) (table plain : List ℕ) (readable : Readable 
   all-counted : up_to (get_or plain i 0) (even_between rows m table from (from + get_or plain i 0)) ≡ divided_of m p table plain i
   all-counted = counted-weight bits entries m p table plain readable divisor rows i from _ checks placed refl
 
-  none-divided : r ≡ 0 → divided_of m p table plain i ≡ 0
-  none-divided z =
+  none_divided : r ≡ 0 → divided_of m p table plain i ≡ 0
+  none_divided z =
       sym all-counted ∙ ap (up_to (get_or plain i 0)) (up_to_zero 0 _ (sym counted ∙ z)) ∙ sym (up_to_within (get_or plain i 0) 0 (omega arith))
 
-  some-divided : (r ≡ 0 → ⊥) → divided_of m p table plain i ≡ 0 → ⊥
-  some-divided n z = n (counted ∙ ap (up_to 0) (up_to_zero (get_or plain i 0) _ (all-counted ∙ z)) ∙ sym (up_to_within 0 0 (omega arith)))
+  some_divided : (r ≡ 0 → ⊥) → divided_of m p table plain i ≡ 0 → ⊥
+  some_divided n z = n (counted ∙ ap (up_to 0) (up_to_zero (get_or plain i 0) _ (all-counted ∙ z)) ∙ sym (up_to_within 0 0 (omega arith)))
 
 -- ---- the loop
 
@@ -62,32 +62,32 @@ module _ (m p : ℕ) (table plain : List ℕ) (entries : ℕ) where
     pub placed : from ≡ paths_to plain i
     pub none_yet : (k : ℕ) → k < i → divided_of m p table plain k ≡ 0
 
-  pub looking-begin : Looking 0 0
-  looking-begin = record { within = omega arith; placed = sum_none plain; none_yet = λ k l. absurd (omega arith) }
+  pub looking_begin : Looking 0 0
+  looking_begin = record { within = omega arith; placed = sum_none plain; none_yet = λ k l. absurd (omega arith) }
 
   -- the words of entry i, up to the first that passes every check
   module _ {bits from i r : ℕ} {rows : List ℕ} (readable : Readable bits entries table plain) (divisor : Divisor m p) (checks : rows ≡ check_table bits m p)
       (counted : r ≡ up_to 0 (even_between rows m table from (from + get_or plain i 0))) (looking : Looking from i) (more : i < entries) where
-    pub looking-on : r ≡ 0 → Looking (from + get_or plain i 0) (i + 1)
-    looking-on z = record {
+    pub looking_on : r ≡ 0 → Looking (from + get_or plain i 0) (i + 1)
+    looking_on z = record {
       within = omega arith;
-      placed = omega (arith, before-next plain i, looking.placed);
+      placed = omega (arith, before_next plain i, looking.placed);
       none_yet = λ k h. elim (dec_lt k i) [
         | yes before ↦ looking.none_yet k before
         | no n ↦
             let same : k ≡ i = omega arith in
-            ap (divided_of m p table plain) same ∙ none-divided bits entries m p table plain readable divisor rows from i r checks looking.placed counted z
+            ap (divided_of m p table plain) same ∙ none_divided bits entries m p table plain readable divisor rows from i r checks looking.placed counted z
       ];
     }
 
-    pub looking-found : (r ≡ 0 → ⊥) → i + 1 ≡ first_above0 1 (divided_counts m table plain entries p)
+    pub looking_found : (r ≡ 0 → ⊥) → i + 1 ≡ first_above0 1 (divided_counts m table plain entries p)
     unfolding divided_counts
-    looking-found n =
-        let some = some-divided bits entries m p table plain readable divisor rows from i r checks looking.placed counted n in
+    looking_found n =
+        let some = some_divided bits entries m p table plain readable divisor rows from i r checks looking.placed counted n in
         omega (arith, first_found (divided_of m p table plain) 1 0 entries i (omega arith) (omega arith) (λ k _ l. looking.none_yet k l) some)
 
-  pub looking-end : {from i : ℕ} → Looking from i → entries ≤ i → entries + 1 ≡ first_above0 1 (divided_counts m table plain entries p)
+  pub looking_end : {from i : ℕ} → Looking from i → entries ≤ i → entries + 1 ≡ first_above0 1 (divided_counts m table plain entries p)
   unfolding divided_counts
-  looking-end looking h =
+  looking_end looking h =
       let all = looking.within in
       omega (arith, first_none (divided_of m p table plain) 1 0 entries (λ k _ l. looking.none_yet k (omega arith)))

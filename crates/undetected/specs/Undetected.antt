@@ -1,6 +1,6 @@
 -- What a check polynomial leaves undetected: how many nonzero words of each weight it divides. From division and the weight of words, which is by
 -- products, over the words 1 to 2^N - 1; no event, state, walk or table enters here.
--- Counting tests that the remainder is 0. `IsUndetected` says the same with ordinary products, and `undetected-means-divided` (proofs/Undetected.antt)
+-- Counting tests that the remainder is 0. `IsUndetected` says the same with ordinary products, and `undetected_means_divided` (proofs/Undetected.antt)
 -- that each count is the number of the words that it describes: no reader has to know about remainders.
 -- Assumes nothing.
 use Rattle.std.specs.Prelude.{ℕ, ◌^◌, ◌≤◌, ◌<◌, ◌≡◌, Bool, ◌&&◌, List, map, eqb}

@@ -1,6 +1,6 @@
 -- How a walk begins and ends, and from a walk to the theorem.
 --     if_returns, finish       an early return; the return
---     by-steps, by-steps-asked from a walk to the theorem: of a function that requires nothing, or a fact.        by-steps-at      of a member of a recursive group, which requires a fact
+--     by_steps, by_steps_asked from a walk to the theorem: of a function that requires nothing, or a fact.        by_steps_at      of a member of a recursive group, which requires a fact
 --                      The walk binds a name for each parameter, `𝓣`, by which its steps know the tables, `ends`, and bs, where its locals lie
 -- Assumes `Logic`.
 use mathlib.Core.Path.{◌≡◌, ap}
@@ -11,8 +11,8 @@ use Prim.Native.Nat.{ℕ, zero}
 use lib.Dec.{T as Holds, eqb, eqb→eq}
 use lib.ListN.{drop as cut}
 use seplogic.Ra.Ura.{Ura}
-use seplogic.Ra.TreeShare.{full_share}
-use mir.Syntax.{Name, Fn, Opd as Operand, Body, seq, return, cond, skip}
+use base.Fraction.{full_share}
+use mir.Syntax.{Callee, Fn, Opd as Operand, Body, seq, return, cond, skip}
 use mir.Val.{Val, vbool}
 use base.Logic.{SProp, ent, sep, emp, id⊢, via, never_e}
 use base.Fml.{fat}
@@ -39,7 +39,7 @@ use denote.Triple.Clauses.{Ended, Clauses, Lasts, closing}
 use denote.Triple.Walked.{needs, Fit, Ending, walk_of, ends_at, walked, walked_at, walk_Meets, walk_meets_at}
 use Rattle.lists.proofs.Tests.{T_not_not}
 use Rattle.walks.proofs.Over.{over, On, on, tabled}
-use Rattle.walks.proofs.Walk.{Blocks, envOf, cells, leaves, tests, laid, statesOf, envAt}
+use Rattle.walks.proofs.Walk.{Blocks, env_of, cells, leaves, tests, laid, states_of, env_at}
 use Rattle.walks.proofs.Loans as L
 use Rattle.walks.proofs.Loans.{tokens, owned, Lists, Same}
 use Rattle.walks.proofs.Types.{Plain, Has, Kind, refs, slots, stays, spells, tells, goes, Names, Each, each_at}
@@ -63,7 +63,7 @@ module _ {M : Type 1} {𝓤 : Ura M} {𝓛 : Logic 𝓤} {K : Type 0} where
 
     -- a walk returns the result r, which is in local 0, with the lists zs, where it may end
     pub finish : K → (g : ℕ) {ps : List Par} {P : Plain} {Kf : Val → SProp 𝓤} {r : P.row.Denot} {zs : Lefts ps} → End 𝓛 ps P Kf r zs
-        → ◌≡◌ {A = List (Item 𝓤) × Env 𝓤 H} (nth 𝓛 g Γ ∷ items 𝓛 (L.after (olds ps) (spread ps zs)) ++ laid 𝓛 (statesOf 𝓛 (cut g Γ)), envAt 𝓛 (statesOf 𝓛 (cut g Γ)))
+        → ◌≡◌ {A = List (Item 𝓤) × Env 𝓤 H} (nth 𝓛 g Γ ∷ items 𝓛 (L.after (olds ps) (spread ps zs)) ++ laid 𝓛 (states_of 𝓛 (cut g Γ)), env_at 𝓛 (states_of 𝓛 (cut g Γ)))
         (‵ (fat full_share (spot_of 𝓤 H E zero).0 (spot_of 𝓤 H E zero).1 zero (P.val r)) ∷ Γ, E)
         → Seq K 𝓛 Γ (runs (tabled 𝓣).C (tabled 𝓣).Λ E return (at_ret E Kf))
     finish t g {ps} {zs = zs} end eq =
@@ -86,10 +86,10 @@ module _ {M : Type 1} {𝓤 : Ura M} (𝓛 : Logic 𝓤) (𝓜 : Model 𝓤 𝓛
     abbrev shape : Ended
     shape = record { signature = record { lifetimes = refs ks; outlives = []; params = slots ks; result = plain (λ _. P.row) }; kept = all yes (slots ks) }
 
-    -- `said` is the function's `clauses 𝓤 H`
+    -- `said` is the function's `clauses 𝓛`
     module _ (said : (Memory → SProp 𝓤) → (Routine → Fun 𝓤) → Clauses 𝓤 shape) (f : Fn) where
       abbrev c : Clauses 𝓤 shape
-      c = said 𝓜.mem 𝓡.run
+      c = said 𝓜.mem 𝓡.returns
 
       abbrev Walked : Contract 𝓤
       Walked = walk_of 𝓛 shape (stays ks) c
@@ -101,23 +101,23 @@ module _ {M : Type 1} {𝓤 : Ura M} (𝓛 : Logic 𝓤) (𝓜 : Model 𝓤 𝓛
       abbrev Walking : (κs : Lfts (refs ks)) (qs : Shares (refs ks)) (a : EArgs shape.signature κs) → (c κs a).ghost → Type 1
       Walking κs qs a g = ent 𝓤 (Walked.pre (at_entry κs qs a g)) (WpFn 𝓤 H 𝓞.C 𝓞.Λ f (Walked.args (at_entry κs qs a g)) (Walked.post (at_entry κs qs a g)))
 
-      by-walk : (k : Name) → Closed 𝓤 H (tables 𝓤 H 𝓜 𝓡 γ).C (tables 𝓤 H 𝓜 𝓡 γ).Λ k f
+      by_walk : (k : Callee) → Closed 𝓤 H (tables 𝓤 H 𝓜 𝓡 γ).C (tables 𝓤 H 𝓜 𝓡 γ).Λ k f
           → ((κs : Lfts (refs ks)) (qs : Shares (refs ks)) (a : EArgs shape.signature κs) (g : (c κs a).ghost) → Are (types_at (slots ks) κs) (Ises (types_at (slots ks) κs)) a (valss (types_at (slots ks) κs) (spells ks κs) a) → Walking κs qs a g)
           → Triple 𝓤 ((tables 𝓤 H 𝓜 𝓡 γ).C k) (triple_of 𝓛 shape.signature (closing 𝓛 shape c))
       unfolding tables_of
-      by-walk k closed walk =
+      by_walk k closed walk =
           entered 𝓤 H (triple_of 𝓛 shape.signature (closing 𝓛 shape c)) (tables 𝓤 H 𝓜 𝓡 γ).C (tables 𝓤 H 𝓜 𝓡 γ).Λ k f closed
           (walk_Meets 𝓛 shape (stays ks) (goes 𝓛 ks) c (WpFn 𝓤 H 𝓞.C 𝓞.Λ f) (WpFn-mono 𝓤 H 𝓛.laws 𝓞 f)
           (walked 𝓛 shape (stays ks) c (WpFn 𝓤 H 𝓞.C 𝓞.Λ f) (spells ks) (tells ks) (λ κs qs bounds a g are. walk κs qs a g are)))
 
       -- of one member of a recursive group, at the calls of size t
-      by-walk-at : (k : Name) → Closed 𝓤 H (tables 𝓤 H 𝓜 𝓡 γ).C (tables 𝓤 H 𝓜 𝓡 γ).Λ k f → (size : (κs : Lfts (refs ks)) → EArgs shape.signature κs → ℕ) (t : ℕ)
+      by_walk_at : (k : Callee) → Closed 𝓤 H (tables 𝓤 H 𝓜 𝓡 γ).C (tables 𝓤 H 𝓜 𝓡 γ).Λ k f → (size : (κs : Lfts (refs ks)) → EArgs shape.signature κs → ℕ) (t : ℕ)
           → ((κs : Lfts (refs ks)) (qs : Shares (refs ks)) (a : EArgs shape.signature κs) (g : (c κs a).ghost) → Are (types_at (slots ks) κs) (Ises (types_at (slots ks) κs)) a (valss (types_at (slots ks) κs) (spells ks κs) a) → size κs a ≡ t → Walking κs qs a g)
           → (y : (triple_of 𝓛 shape.signature (closing 𝓛 shape c)).Ghost) → size y.0.0 y.0.3 ≡ t
           → ent 𝓤 ((triple_of 𝓛 shape.signature (closing 𝓛 shape c)).pre y)
           (𝓞.C k ((triple_of 𝓛 shape.signature (closing 𝓛 shape c)).args y) ((triple_of 𝓛 shape.signature (closing 𝓛 shape c)).post y))
       unfolding tables_of
-      by-walk-at k closed size t walk y e =
+      by_walk_at k closed size t walk y e =
           via 𝓤 _ (walk_meets_at 𝓛 shape (stays ks) (goes 𝓛 ks) c (WpFn 𝓤 H 𝓞.C 𝓞.Λ f) (WpFn-mono 𝓤 H 𝓛.laws 𝓞 f) y
           (walked_at 𝓛 shape (stays ks) c (WpFn 𝓤 H 𝓞.C 𝓞.Λ f) y (spells ks y.0.0) (tells ks y.0.0) (λ are. walk y.0.0 y.0.1 y.0.3 y.1 are e))) (closed _ _)
 
@@ -147,7 +147,7 @@ module _ {M : Type 1} {𝓤 : Ura M} (𝓛 : Logic 𝓤) (𝓜 : Model 𝓤 𝓛
         abbrev Steps : Names ks → Type 1
         Steps e =
             (bs : Blocks f.locals) → Seq (Go {0}) 𝓛 (items 𝓛 (olds (pars ks e)) ++ cells 𝓛 f.locals bs (none ∷ set (values (pars ks e))))
-            (runs 𝓞.C 𝓞.Λ (envOf 𝓛 f.locals bs) f.body (at_ret (envOf 𝓛 f.locals bs) (Walked.post (y e))))
+            (runs 𝓞.C 𝓞.Λ (env_of 𝓛 f.locals bs) f.body (at_ret (env_of 𝓛 f.locals bs) (Walked.post (y e))))
 
         -- from what there is on entry, with R
         abbrev Entered : Names ks → SProp 𝓤 → Type 1
@@ -166,21 +166,21 @@ module _ {M : Type 1} {𝓤 : Ura M} (𝓛 : Logic 𝓤) (𝓜 : Model 𝓤 𝓛
           enter : (e : Names ks) → Steps e → Seq (Go {0}) 𝓛 (items 𝓛 (olds (pars ks e))) (prop (WpFn 𝓤 H 𝓞.C 𝓞.Λ f (values (pars ks e)) (Walked.post (y e))))
           enter e k = enters ! f (values (pars ks e)) (fit e (fits 𝓛 (pars ks e))) k
 
-          module _ (k : Name) (closed : Closed 𝓤 H (tables 𝓤 H 𝓜 𝓡 γ).C (tables 𝓤 H 𝓜 𝓡 γ).Λ k f) where
-            pub by-steps : (((e : Names ks) → Entered e (emp 𝓤)) → Shows) → Each ks (λ e. On 𝓛 𝓜 𝓡 γ → Ends Φ e → Steps e) → Triple 𝓤 ((tables 𝓤 H 𝓜 𝓡 γ).C k) (triple_of 𝓛 shape.signature (closing 𝓛 shape c))
-            by-steps shows walk = by-walk k closed (shows (λ e. opens 𝓛 (pars ks e) (enter e (each_at ks _ walk e on (end e)))))
+          module _ (k : Callee) (closed : Closed 𝓤 H (tables 𝓤 H 𝓜 𝓡 γ).C (tables 𝓤 H 𝓜 𝓡 γ).Λ k f) where
+            pub by_steps : (((e : Names ks) → Entered e (emp 𝓤)) → Shows) → Each ks (λ e. On 𝓛 𝓜 𝓡 γ → Ends Φ e → Steps e) → Triple 𝓤 ((tables 𝓤 H 𝓜 𝓡 γ).C k) (triple_of 𝓛 shape.signature (closing 𝓛 shape c))
+            by_steps shows walk = by_walk k closed (shows (λ e. opens 𝓛 (pars ks e) (enter e (each_at ks _ walk e on (end e)))))
 
             -- `(λ e x. x)` says that φ is what it requires
-            pub by-steps-asked : {φ : Names ks → Type 0} → ((e : Names ks) → Entered e (fact 𝓤 (φ e)) → Met e) → (((e : Names ks) → Met e) → Shows) → Each ks (λ e. On 𝓛 𝓜 𝓡 γ → Ends Φ e → φ e → Steps e)
+            pub by_steps_asked : {φ : Names ks → Type 0} → ((e : Names ks) → Entered e (fact 𝓤 (φ e)) → Met e) → (((e : Names ks) → Met e) → Shows) → Each ks (λ e. On 𝓛 𝓜 𝓡 γ → Ends Φ e → φ e → Steps e)
                 → Triple 𝓤 ((tables 𝓤 H 𝓜 𝓡 γ).C k) (triple_of 𝓛 shape.signature (closing 𝓛 shape c))
-            by-steps-asked {φ} asks shows walk = by-walk k closed (shows (λ e. asks e (needs 𝓤 (φ e) _ (λ x. opened 𝓛 (pars ks e) (enter e (each_at ks _ walk e on (end e) x))))))
+            by_steps_asked {φ} asks shows walk = by_walk k closed (shows (λ e. asks e (needs 𝓤 (φ e) _ (λ x. opened 𝓛 (pars ks e) (enter e (each_at ks _ walk e on (end e) x))))))
 
             -- of one member of a recursive group, at the calls of size t; S is what it knows of smaller ones
-            pub by-steps-at : {φ : Names ks → Type 0} → ((e : Names ks) → Entered e (fact 𝓤 (φ e)) → Met e) → (size : (κs : Lfts (refs ks)) → EArgs shape.signature κs → ℕ) (t : ℕ) (S : Names ks → Type 1)
+            pub by_steps_at : {φ : Names ks → Type 0} → ((e : Names ks) → Entered e (fact 𝓤 (φ e)) → Met e) → (size : (κs : Lfts (refs ks)) → EArgs shape.signature κs → ℕ) (t : ℕ) (S : Names ks → Type 1)
                 → (((e : Names ks) → S e → Met e) → (κs : Lfts (refs ks)) (qs : Shares (refs ks)) (a : EArgs shape.signature κs) (g : (c κs a).ghost) → Are (types_at (slots ks) κs) (Ises (types_at (slots ks) κs)) a (valss (types_at (slots ks) κs) (spells ks κs) a)
                 → size κs a ≡ t → Walking κs qs a g)
                 → Each ks (λ e. S e → On 𝓛 𝓜 𝓡 γ → Ends Φ e → φ e → Steps e)
                 → (x : (triple_of 𝓛 shape.signature (closing 𝓛 shape c)).Ghost) → size x.0.0 x.0.3 ≡ t
                 → ent 𝓤 ((triple_of 𝓛 shape.signature (closing 𝓛 shape c)).pre x)
                 (𝓞.C k ((triple_of 𝓛 shape.signature (closing 𝓛 shape c)).args x) ((triple_of 𝓛 shape.signature (closing 𝓛 shape c)).post x))
-            by-steps-at {φ} asks size t S shows walk = by-walk-at k closed size t (shows (λ e self. asks e (needs 𝓤 (φ e) _ (λ x. opened 𝓛 (pars ks e) (enter e (each_at ks _ walk e self on (end e) x))))))
+            by_steps_at {φ} asks size t S shows walk = by_walk_at k closed size t (shows (λ e self. asks e (needs 𝓤 (φ e) _ (λ x. opened 𝓛 (pars ks e) (enter e (each_at ks _ walk e self on (end e) x))))))

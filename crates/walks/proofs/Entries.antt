@@ -10,7 +10,7 @@ use mathlib.Core.List.{List, [], ◌∷◌, ◌++◌}
 use Prim.Native.Nat.{ℕ}
 use lib.Dec.{T as Holds}
 use seplogic.Ra.Ura.{Ura}
-use seplogic.Ra.TreeShare.{full_share}
+use base.Fraction.{full_share}
 use mir.Syntax.{Local, local, Fn}
 use mir.Val.{Val, WT, has_ty}
 use base.Logic.{SProp, ent, sep, emp, id⊢, via, emp∗, mono_r, snd∗, assoc', fst∗}
@@ -21,10 +21,10 @@ use contract.Monad.{fact}
 use types.Kit.{Item, ‵, raw, ◌⊛◌, mean, ⋆, push, pop, pull, fill, nth, put, del, Goal, prop, runs, passes, params', at_ret, Seq, Go, ◌$◌, ◌∵◌, !, qed, by, use2, move, split}
 use types.Run.{init, pass1, pass0}
 use denote.Triple.Walked.{says}
-use Rattle.walks.proofs.Walk.{Blocks, envOf, cells, behind, before, begins}
+use Rattle.walks.proofs.Walk.{Blocks, env_of, cells, behind, before, begins}
 use Rattle.walks.proofs.Hold.{Mut, Shr}
 use Rattle.walks.proofs.Loans as L
-use Rattle.walks.proofs.Loans.{tokens, owned, held, Lists, opened-all, shut-all}
+use Rattle.walks.proofs.Loans.{tokens, owned, held, Lists, opened-all, shut_all}
 use Rattle.walks.proofs.Types.{Plain, Row, Of, value, Has}
 use Rattle.walks.proofs.Parameters.{Par, olds, made_of, made_after, Lefts, spread}
 
@@ -32,7 +32,7 @@ use Rattle.walks.proofs.Parameters.{Par, olds, made_of, made_after, Lefts, sprea
 module _ {M : Type 1} {𝓤 : Ura M} (𝓛 : Logic 𝓤) where
   abbrev pub items : List L.Par → List (Item 𝓤)
   items [] = []
-  items (L.shr R κ q b o n γ l ∷ ps) = Shr 𝓤 R κ q b o n γ l ∷ items ps
+  items (L.shr R κ q b o n l ∷ ps) = Shr 𝓤 R κ q b o n l ∷ items ps
   items (L.mut R κ q b o n γ l ∷ ps) = Mut 𝓤 R κ q b o n γ l ∷ items ps
   items (L.val P ∷ ps) = items ps
 
@@ -53,8 +53,8 @@ module _ {M : Type 1} {𝓤 : Ura M} (𝓛 : Logic 𝓤) where
   abbrev pub puts : List ℕ → List L.Par → List (Item 𝓤) → List (Item 𝓤)
   puts is [] Γ = Γ
   puts is (L.val P ∷ ps) Γ = puts is ps Γ
-  puts [] (L.shr R κ q b o n γ l ∷ ps) Γ = Γ
-  puts (i ∷ is) (L.shr R κ q b o n γ l ∷ ps) Γ = puts is ps (put 𝓛 i (Shr 𝓤 R κ q b o n γ l) Γ)
+  puts [] (L.shr R κ q b o n l ∷ ps) Γ = Γ
+  puts (i ∷ is) (L.shr R κ q b o n l ∷ ps) Γ = puts is ps (put 𝓛 i (Shr 𝓤 R κ q b o n l) Γ)
   puts [] (L.mut R κ q b o n γ l ∷ ps) Γ = Γ
   puts (i ∷ is) (L.mut R κ q b o n γ l ∷ ps) Γ = puts is ps (put 𝓛 i (Mut 𝓤 R κ q b o n γ l) Γ)
 
@@ -81,22 +81,22 @@ module _ {M : Type 1} {𝓤 : Ura M} (𝓛 : Logic 𝓤) where
     pub gives_back : (is : List ℕ) (ps : List L.Par) (Γ : List (Item 𝓤)) → ent 𝓤 (sep 𝓤 (Pr (held 𝓤 ps)) (⋆ 𝓛 Γ)) (⋆ 𝓛 (puts is ps Γ))
     gives_back is [] Γ = snd∗ 𝓤 (emp 𝓤) (⋆ 𝓛 Γ)
     gives_back is (L.val P ∷ ps) Γ = gives_back is ps Γ
-    gives_back [] (L.shr R κ q b o n γ l ∷ ps) Γ = snd∗ 𝓤 (Pr (Shr 𝓤 R κ q b o n γ l ⊛ held 𝓤 ps)) (⋆ 𝓛 Γ)
-    gives_back (i ∷ is) (L.shr R κ q b o n γ l ∷ ps) Γ = both is i (Shr 𝓤 R κ q b o n γ l) ps Γ (gives_back is ps (put 𝓛 i (Shr 𝓤 R κ q b o n γ l) Γ))
+    gives_back [] (L.shr R κ q b o n l ∷ ps) Γ = snd∗ 𝓤 (Pr (Shr 𝓤 R κ q b o n l ⊛ held 𝓤 ps)) (⋆ 𝓛 Γ)
+    gives_back (i ∷ is) (L.shr R κ q b o n l ∷ ps) Γ = both is i (Shr 𝓤 R κ q b o n l) ps Γ (gives_back is ps (put 𝓛 i (Shr 𝓤 R κ q b o n l) Γ))
     gives_back [] (L.mut R κ q b o n γ l ∷ ps) Γ = snd∗ 𝓤 (Pr (Mut 𝓤 R κ q b o n γ l ⊛ held 𝓤 ps)) (⋆ 𝓛 Γ)
     gives_back (i ∷ is) (L.mut R κ q b o n γ l ∷ ps) Γ = both is i (Mut 𝓤 R κ q b o n γ l) ps Γ (gives_back is ps (put 𝓛 i (Mut 𝓤 R κ q b o n γ l) Γ))
 
     held_items : (ps : List L.Par) → ent 𝓤 (Pr (held 𝓤 ps)) (⋆ 𝓛 (items ps))
     held_items [] = id⊢ 𝓤 (emp 𝓤)
     held_items (L.val P ∷ ps) = held_items ps
-    held_items (L.shr R κ q b o n γ l ∷ ps) = via 𝓤 _ (mono_r 𝓤 (Pr (Shr 𝓤 R κ q b o n γ l)) (held_items ps)) (push 𝓛 (Shr 𝓤 R κ q b o n γ l) (items ps))
+    held_items (L.shr R κ q b o n l ∷ ps) = via 𝓤 _ (mono_r 𝓤 (Pr (Shr 𝓤 R κ q b o n l)) (held_items ps)) (push 𝓛 (Shr 𝓤 R κ q b o n l) (items ps))
     held_items (L.mut R κ q b o n γ l ∷ ps) = via 𝓤 _ (mono_r 𝓤 (Pr (Mut 𝓤 R κ q b o n γ l)) (held_items ps)) (push 𝓛 (Mut 𝓤 R κ q b o n γ l) (items ps))
 
-    items-held : (ps : List L.Par) → ent 𝓤 (⋆ 𝓛 (items ps)) (Pr (held 𝓤 ps))
-    items-held [] = id⊢ 𝓤 (emp 𝓤)
-    items-held (L.val P ∷ ps) = items-held ps
-    items-held (L.shr R κ q b o n γ l ∷ ps) = via 𝓤 _ (pop 𝓛 (Shr 𝓤 R κ q b o n γ l) (items ps)) (mono_r 𝓤 (Pr (Shr 𝓤 R κ q b o n γ l)) (items-held ps))
-    items-held (L.mut R κ q b o n γ l ∷ ps) = via 𝓤 _ (pop 𝓛 (Mut 𝓤 R κ q b o n γ l) (items ps)) (mono_r 𝓤 (Pr (Mut 𝓤 R κ q b o n γ l)) (items-held ps))
+    items_held : (ps : List L.Par) → ent 𝓤 (⋆ 𝓛 (items ps)) (Pr (held 𝓤 ps))
+    items_held [] = id⊢ 𝓤 (emp 𝓤)
+    items_held (L.val P ∷ ps) = items_held ps
+    items_held (L.shr R κ q b o n l ∷ ps) = via 𝓤 _ (pop 𝓛 (Shr 𝓤 R κ q b o n l) (items ps)) (mono_r 𝓤 (Pr (Shr 𝓤 R κ q b o n l)) (items_held ps))
+    items_held (L.mut R κ q b o n γ l ∷ ps) = via 𝓤 _ (pop 𝓛 (Mut 𝓤 R κ q b o n γ l) (items ps)) (mono_r 𝓤 (Pr (Mut 𝓤 R κ q b o n γ l)) (items_held ps))
 
     -- ---- a walk begins, and ends
     pub opened : (ps : List Par) {P : SProp 𝓤} → Seq (Go {0}) 𝓛 (items (olds ps)) (prop P) → ent 𝓤 (sep 𝓤 (Pr (tokens 𝓤 (olds ps))) (sem 𝓛 (owned (olds ps)))) P
@@ -107,7 +107,7 @@ module _ {M : Type 1} {𝓤 : Ura M} (𝓛 : Logic 𝓤) where
 
     pub ends : (ps : List Par) (z : Lists (olds ps)) (P : Plain) (r : Of P) → Has P r → {φ : Type 0} → φ
         → ent 𝓤 (⋆ 𝓛 (items (L.after (olds ps) z))) (sep 𝓤 (sep 𝓤 (Pr (tokens 𝓤 (L.after (olds ps) z))) (sep 𝓤 (sem 𝓛 (owned (L.after (olds ps) z))) (sem 𝓛 ((Row P).own_val r (value P r ∷ []))))) (fact 𝓤 φ))
-    ends ps z P r is x = qed 𝓛 (items (L.after (olds ps) z)) ∵ says ! x $ by ! (via 𝓤 _ (items-held (L.after (olds ps) z)) (shut-all 𝓛 (L.after (olds ps) z) (made_after 𝓛 ps z) (made_of 𝓛 P r is)))
+    ends ps z P r is x = qed 𝓛 (items (L.after (olds ps) z)) ∵ says ! x $ by ! (via 𝓤 _ (items_held (L.after (olds ps) z)) (shut_all 𝓛 (L.after (olds ps) z) (made_after 𝓛 ps z) (made_of 𝓛 P r is)))
 
 -- ---- into a function: its parameters are stored
 abbrev pub Typing : List Local → List Val → Type 0
@@ -127,28 +127,28 @@ Stored (l ∷ ls) vs = Typing ls vs
 module _ {M : Type 1} {𝓤 : Ura M} {𝓛 : Logic 𝓤} {K : Type 0} where
   open 𝓛 use {H}
 
-  passes-all : K → (Γ : List (Item 𝓤)) (ls : List Local) (bs : Blocks ls) (vs : List Val) → Typing ls vs → {g : Goal 𝓤 H} → Seq K 𝓛 (Γ ++ cells 𝓛 ls bs (set vs)) g → Seq K 𝓛 (Γ ++ cells 𝓛 ls bs []) (passes (envOf 𝓛 ls bs) vs g)
+  passes-all : K → (Γ : List (Item 𝓤)) (ls : List Local) (bs : Blocks ls) (vs : List Val) → Typing ls vs → {g : Goal 𝓤 H} → Seq K 𝓛 (Γ ++ cells 𝓛 ls bs (set vs)) g → Seq K 𝓛 (Γ ++ cells 𝓛 ls bs []) (passes (env_of 𝓛 ls bs) vs g)
   passes-all t Γ ls bs [] ok s = pass0 t $ s
   passes-all t Γ [] bs (v ∷ vs) ok s = absurd ok
   passes-all t Γ (local τ h ∷ ls) bs (v ∷ vs) ok {g} s =
       at_front (passes-all t (‵ (fat full_share τ bs.0 0 v) ∷ ‵ (fdies τ bs.0) ∷ Γ) ls bs.1 vs ok.1 {g = g}
       (by t (via 𝓤 _ (behind 𝓛 (‵ (fat full_share τ bs.0 0 v)) (‵ (fdies τ bs.0)) Γ (cells 𝓛 ls bs.1 (set vs))) s.prf)))
     where
-      at_front : Seq K 𝓛 (‵ (fat full_share τ bs.0 0 v) ∷ ‵ (fdies τ bs.0) ∷ Γ ++ cells 𝓛 ls bs.1 []) (passes (envOf 𝓛 ls bs.1) vs g)
-          → Seq K 𝓛 (Γ ++ ‵ (froom τ bs.0 0) ∷ ‵ (fdies τ bs.0) ∷ cells 𝓛 ls bs.1 []) (passes ((τ, bs.0) ∷ envOf 𝓛 ls bs.1) (v ∷ vs) g)
+      at_front : Seq K 𝓛 (‵ (fat full_share τ bs.0 0 v) ∷ ‵ (fdies τ bs.0) ∷ Γ ++ cells 𝓛 ls bs.1 []) (passes (env_of 𝓛 ls bs.1) vs g)
+          → Seq K 𝓛 (Γ ++ ‵ (froom τ bs.0 0) ∷ ‵ (fdies τ bs.0) ∷ cells 𝓛 ls bs.1 []) (passes ((τ, bs.0) ∷ env_of 𝓛 ls bs.1) (v ∷ vs) g)
       at_front u =
-          let stored : Seq K 𝓛 (‵ (froom τ bs.0 0) ∷ ‵ (fdies τ bs.0) ∷ Γ ++ cells 𝓛 ls bs.1 []) (passes ((τ, bs.0) ∷ envOf 𝓛 ls bs.1) (v ∷ vs) g) = pass1 t (init t 0 refl ok.0) $ u in
+          let stored : Seq K 𝓛 (‵ (froom τ bs.0 0) ∷ ‵ (fdies τ bs.0) ∷ Γ ++ cells 𝓛 ls bs.1 []) (passes ((τ, bs.0) ∷ env_of 𝓛 ls bs.1) (v ∷ vs) g) = pass1 t (init t 0 refl ok.0) $ u in
           by t (via 𝓤 _ (before 𝓛 (‵ (froom τ bs.0 0)) (‵ (fdies τ bs.0)) Γ (cells 𝓛 ls bs.1 [])) stored.prf)
 
-  storing : K → (Γ : List (Item 𝓤)) (ls : List Local) (bs : Blocks ls) (vs : List Val) → Stored ls vs → {g : Goal 𝓤 H} → Seq K 𝓛 (Γ ++ cells 𝓛 ls bs (none ∷ set vs)) g → Seq K 𝓛 (Γ ++ cells 𝓛 ls bs []) (params' (envOf 𝓛 ls bs) vs g)
+  storing : K → (Γ : List (Item 𝓤)) (ls : List Local) (bs : Blocks ls) (vs : List Val) → Stored ls vs → {g : Goal 𝓤 H} → Seq K 𝓛 (Γ ++ cells 𝓛 ls bs (none ∷ set vs)) g → Seq K 𝓛 (Γ ++ cells 𝓛 ls bs []) (params' (env_of 𝓛 ls bs) vs g)
   storing t Γ [] bs vs ok s = absurd ok
   storing t Γ (local τ h ∷ ls) bs vs ok {g} s =
-      let rest : Seq K 𝓛 (‵ (froom τ bs.0 0) ∷ ‵ (fdies τ bs.0) ∷ Γ ++ cells 𝓛 ls bs.1 []) (passes (envOf 𝓛 ls bs.1) vs g) =
+      let rest : Seq K 𝓛 (‵ (froom τ bs.0 0) ∷ ‵ (fdies τ bs.0) ∷ Γ ++ cells 𝓛 ls bs.1 []) (passes (env_of 𝓛 ls bs.1) vs g) =
       passes-all t (‵ (froom τ bs.0 0) ∷ ‵ (fdies τ bs.0) ∷ Γ) ls bs.1 vs ok (by t (via 𝓤 _ (behind 𝓛 (‵ (froom τ bs.0 0)) (‵ (fdies τ bs.0)) Γ (cells 𝓛 ls bs.1 (set vs))) s.prf)) in
       by t (via 𝓤 _ (before 𝓛 (‵ (froom τ bs.0 0)) (‵ (fdies τ bs.0)) Γ (cells 𝓛 ls bs.1 [])) rest.prf)
 
   pub enters : K → {Γ : List (Item 𝓤)} {C : Calls 𝓤 H} {Λ : Loops 𝓤 H} (f : Fn) (vs : List Val) {Kf : Val → SProp 𝓤} → Stored f.locals vs
-      → ((bs : Blocks f.locals) → Seq K 𝓛 (Γ ++ cells 𝓛 f.locals bs (none ∷ set vs)) (runs C Λ (envOf 𝓛 f.locals bs) f.body (at_ret (envOf 𝓛 f.locals bs) Kf))) → Seq K 𝓛 Γ (prop (WpFn 𝓤 H C Λ f vs Kf))
+      → ((bs : Blocks f.locals) → Seq K 𝓛 (Γ ++ cells 𝓛 f.locals bs (none ∷ set vs)) (runs C Λ (env_of 𝓛 f.locals bs) f.body (at_ret (env_of 𝓛 f.locals bs) Kf))) → Seq K 𝓛 Γ (prop (WpFn 𝓤 H C Λ f vs Kf))
   enters t {Γ} {C} {Λ} f vs {Kf} ok k = begins t C Λ f vs Kf (λ bs. storing t Γ f.locals bs vs ok (k bs))
 
 -- a walk may end at the result r and the lists zs: what is held then shows what the contract ensures

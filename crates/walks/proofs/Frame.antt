@@ -12,7 +12,7 @@ pub use mir.Val.{vunit}
 pub use seplogic.Ra.Ura.{Ura}
 pub use prog.Model.{Model}
 pub use prog.Wp.{Heap, Tables}
-pub use contract.Running.{Running, GhostRules, given_of}
+pub use contract.Running.{Running}
 unfoldable pub use contract.Running.{tables_of}
 pub use types.Kit.{◌$◌, ! }
 pub use types.Run.{lit, of_opd, bin}
@@ -20,8 +20,8 @@ pub use denote.Builtin.{u64}
 pub use Rattle.walks.proofs.Over.{over, tabled}
 pub use Rattle.walks.proofs.Walk.{block_at, var, part_of, makes, remakes}
 pub use Rattle.walks.proofs.Types.{Plain, struct, enum, value, Has, number, nothing, Slice, Value, Kind, refs, locals, places, entries, names, by_value, shared, lent}
-pub use Rattle.walks.proofs.Parameters.{Par, the, all_of, at_loan, num, res, typed, pars, own_bound, bound, as_lent, as_long, val, shr, mut}
-pub use Rattle.walks.proofs.Calls.{asks, relend, counts, calls_by, calls-into, recalls, calls, calls-asked, recalls-asked, shares_at, unshares-at}
-pub use Rattle.walks.proofs.Passing.{relend-all}
-pub use Rattle.walks.proofs.Local.{entry_of, slice_of, lends-made, lends-empty, takes_back}
-pub use Rattle.walks.proofs.Ends.{if_returns, finish, is_zero, by-steps, by-steps-asked, by-steps-at}
+pub use Rattle.walks.proofs.Parameters.{Par, the, all_of, at_loan, at_share, num, res, typed, pars, own_bound, bound, as_lent, as_long, val, shr, mut}
+pub use Rattle.walks.proofs.Calls.{asks, relend, counts, calls_by, calls_into, recalls, calls, calls_asked, recalls_asked, shares_at, unshares_at}
+pub use Rattle.walks.proofs.Passing.{relend_all}
+pub use Rattle.walks.proofs.Local.{entry_of, slice_of, lends_made, lends_empty, takes_back}
+pub use Rattle.walks.proofs.Ends.{if_returns, finish, is_zero, by_steps, by_steps_asked, by_steps_at}

@@ -2,7 +2,7 @@
 --     repeated         `[x; n]` holds n times x
 --     lends_local      an array in memory makes a slice, `Loan`; `Away` is what the lender keeps, in the local's place
 --     local_back       the slice is given up, whatever it holds, and the place is room again
---     lends-made, lends-empty  as a step of a walk: the array is made, and lent at once; `[x; 0]` is the second. The walk gets a token x, of which `slice_of x` is the slice and `entry_of x` its entry
+--     lends_made, lends_empty  as a step of a walk: the array is made, and lent at once; `[x; 0]` is the second. The walk gets a token x, of which `slice_of x` is the slice and `entry_of x` its entry
 --     takes_back ! tt x zs refl        the step after the call, which left zs
 -- Assumes `Logic`.
 use mathlib.Core.Path.{◌≡◌, refl, sym, ap, subst}
@@ -11,7 +11,7 @@ use mathlib.Core.List.{List, [], ◌∷◌}
 use lib.Dec.{T as Holds, lit<}
 use lib.ListN.{length, replicate, length-replicate}
 use seplogic.Ra.Ura.{Ura}
-use seplogic.Ra.TreeShare.{full_share}
+use base.Fraction.{full_share}
 use mir.Syntax.{Ty, ty_array, named, place, Rv as RValue, aggregate, Body, seq, assign}
 use mir.Val.{Val, WT, has_ty}
 use base.Logic.{ent, sep, ex, via}
@@ -116,8 +116,8 @@ module _ {M : Type 1} {𝓤 : Ura M} (𝓛 : Logic 𝓤) (R : RattleType) (n k b
   abbrev kept : ℕ × GName → Item 𝓤
   kept x = ‵ (Away R n b zero x) ⊛ ‵ (fdies (ArrayTy R n) b)
 
-  abbrev on-loan : List R.Denot → ℕ × GName → List (Item 𝓤)
-  on-loan ys x = both 𝓛 k Γ (loan ys x) (kept x)
+  abbrev on_loan : List R.Denot → ℕ × GName → List (Item 𝓤)
+  on_loan ys x = both 𝓛 k Γ (loan ys x) (kept x)
 
   abbrev free : Item 𝓤
   free = ‵ (froom (ArrayTy R n) b zero)
@@ -151,40 +151,40 @@ module _ {M : Type 1} {𝓤 : Ura M} {𝓛 : Logic 𝓤} {K : Type 0} where
     both_out : K → {i j : Item 𝓤} → nths 𝓛 (k ∷ suc k ∷ []) Γ ≡ i ∷ j ∷ [] → {G : Goal 𝓤 H} → Seq K 𝓛 ((i ⊛ (j ⊛ ‵ ftrue)) ∷ raw (⋆ 𝓛 (out 𝓛 k Γ)) ∷ []) G → Seq K 𝓛 Γ G
     both_out t e s = by t (via 𝓤 _ (subst (λ (js : List (Item 𝓤)). ent 𝓤 (⋆ 𝓛 Γ) (sep 𝓤 (mean 𝓛 (joined 𝓛 js)) (⋆ 𝓛 (out 𝓛 k Γ)))) e (takes_out 𝓛 (k ∷ suc k ∷ []) Γ)) s.prf)
 
-    both-in : K → (i j : Item 𝓤) {Δ : List (Item 𝓤)} {G : Goal 𝓤 H} → Seq K 𝓛 (both 𝓛 k Γ i j) G → Seq K 𝓛 (i ∷ j ∷ raw (⋆ 𝓛 (out 𝓛 k Γ)) ∷ Δ) G
-    both-in t i j s =
+    both_in : K → (i j : Item 𝓤) {Δ : List (Item 𝓤)} {G : Goal 𝓤 H} → Seq K 𝓛 (both 𝓛 k Γ i j) G → Seq K 𝓛 (i ∷ j ∷ raw (⋆ 𝓛 (out 𝓛 k Γ)) ∷ Δ) G
+    both_in t i j s =
         let first-in = put 𝓛 k i (out 𝓛 k Γ) in
         move t (0 ∷ 2 ∷ []) $ use2 𝓛 (raw (⋆ 𝓛 first-in)) (replaces 𝓛 k i (out 𝓛 k Γ)) $
         move t (1 ∷ 0 ∷ []) $ use2 𝓛 (raw (⋆ 𝓛 (both 𝓛 k Γ i j))) (replaces 𝓛 (suc k) j first-in) $ keep t (0 ∷ []) $ by t s.prf
 
-    lends-pair : {G : Goal 𝓤 H} → K → Soaks G → Makes 𝓛 R (Is R) → Single R.mir → {v : Val} → nths 𝓛 (k ∷ suc k ∷ []) Γ ≡ ‵ (fat full_share (ArrayTy R n) b zero v) ∷ dying 𝓛 R n k b Γ ∷ []
-        → (ys : List R.Denot) → Is (Array R n) ys (v ∷ []) → Room R n → ((x : ℕ × GName) → Seq K 𝓛 (on-loan 𝓛 R n k b Γ ys x) G) → Seq K 𝓛 Γ G
-    lends-pair t z mk one {v} e ys is room next =
+    lends_pair : {G : Goal 𝓤 H} → K → Soaks G → Makes 𝓛 R (Is R) → Single R.mir → {v : Val} → nths 𝓛 (k ∷ suc k ∷ []) Γ ≡ ‵ (fat full_share (ArrayTy R n) b zero v) ∷ dying 𝓛 R n k b Γ ∷ []
+        → (ys : List R.Denot) → Is (Array R n) ys (v ∷ []) → Room R n → ((x : ℕ × GName) → Seq K 𝓛 (on_loan 𝓛 R n k b Γ ys x) G) → Seq K 𝓛 Γ G
+    lends_pair t z mk one {v} e ys is room next =
         both_out t e (split t $ move t (1 ∷ []) $ split t $ move t (2 ∷ []) $
         use1 𝓛 (later (some (λ (x : ℕ × GName). loan 𝓛 R n k b Γ ys x ⊛ ‵ (Away R n b zero x)))) (lends_local R n 𝓛 mk one v ys b zero is room) $ await t z $ pick t (λ x. split t $
-        move t (1 ∷ 2 ∷ []) $ join t $ move t (1 ∷ 0 ∷ 3 ∷ []) $ both-in t (loan 𝓛 R n k b Γ ys x) (kept 𝓛 R n k b Γ x) (next x)))
+        move t (1 ∷ 2 ∷ []) $ join t $ move t (1 ∷ 0 ∷ 3 ∷ []) $ both_in t (loan 𝓛 R n k b Γ ys x) (kept 𝓛 R n k b Γ x) (next x)))
 
-    pair-back : {G : Goal 𝓤 H} → K → Soaks G → (x : ℕ × GName) (zs : List R.Denot) → nths 𝓛 (k ∷ suc k ∷ []) Γ ≡ loan 𝓛 R n k b Γ zs x ∷ kept 𝓛 R n k b Γ x ∷ [] → Seq K 𝓛 (returned 𝓛 R n k b Γ) G → Seq K 𝓛 Γ G
-    pair-back t z x zs e s =
+    pair_back : {G : Goal 𝓤 H} → K → Soaks G → (x : ℕ × GName) (zs : List R.Denot) → nths 𝓛 (k ∷ suc k ∷ []) Γ ≡ loan 𝓛 R n k b Γ zs x ∷ kept 𝓛 R n k b Γ x ∷ [] → Seq K 𝓛 (returned 𝓛 R n k b Γ) G → Seq K 𝓛 Γ G
+    pair_back t z x zs e s =
         both_out t e (split t $ move t (1 ∷ []) $ split t $ split t $ move t (3 ∷ 0 ∷ []) $
-        use2 𝓛 (later (free 𝓛 R n k b Γ)) (local_back R n 𝓛 zs b zero x) $ await t z $ move t (0 ∷ 1 ∷ 3 ∷ []) $ both-in t (free 𝓛 R n k b Γ) (dying 𝓛 R n k b Γ) s)
+        use2 𝓛 (later (free 𝓛 R n k b Γ)) (local_back R n 𝓛 zs b zero x) $ await t z $ move t (0 ∷ 1 ∷ 3 ∷ []) $ both_in t (free 𝓛 R n k b Γ) (dying 𝓛 R n k b Γ) s)
 
   module _ {Γ : List (Item 𝓤)} {G : Goal 𝓤 H} where
     pub takes_back : K → Soaks G → {R : RattleType} {ys : List R.Denot} {k b : ℕ} (x : Token R ys k b) (zs : List R.Denot)
         → nths 𝓛 (k ∷ suc k ∷ []) Γ ≡ loan 𝓛 R (length ys) k b Γ zs x.name ∷ kept 𝓛 R (length ys) k b Γ x.name ∷ [] → Step K 𝓛 (returned 𝓛 R (length ys) k b Γ) G Γ G
-    takes_back t z {R} {ys} {k} {b} x zs e = step (λ s. pair-back R (length ys) k b Γ t z x.name zs e s)
+    takes_back t z {R} {ys} {k} {b} x zs e = step (λ s. pair_back R (length ys) k b Γ t z x.name zs e s)
 
   module _ {Γ : List (Item 𝓤)} {E : Env 𝓤 H} {C : Calls 𝓤 H} {Λ : Loops 𝓤 H} {q : Post 𝓤 H} where
-    pub lends-made : K → (g : ℕ) (R : RattleType) (ys : List R.Denot) {i : ℕ} {rv : RValue} {rest : Body} {v : Val} → Rv K 𝓛 Γ E rv v → Holds (has_ty (ArrayTy R (length ys)) v) × WT v
+    pub lends_made : K → (g : ℕ) (R : RattleType) (ys : List R.Denot) {i : ℕ} {rv : RValue} {rest : Body} {v : Val} → Rv K 𝓛 Γ E rv v → Holds (has_ty (ArrayTy R (length ys)) v) × WT v
         → Makes 𝓛 R (Is R) → Single R.mir → Is (Array R (length ys)) ys (v ∷ []) → Room R (length ys) → found 𝓛 R (length ys) g i v E Γ ≡ wanted 𝓛 R (length ys) g i v E Γ
-        → ((x : Token R ys (g + 2 * i) (spot_of 𝓤 H E i).1) → Seq K 𝓛 (on-loan 𝓛 R (length ys) (g + 2 * i) (spot_of 𝓤 H E i).1 (made_at 𝓛 R (length ys) g i v E Γ) ys x.name) (runs C Λ E rest q))
+        → ((x : Token R ys (g + 2 * i) (spot_of 𝓤 H E i).1) → Seq K 𝓛 (on_loan 𝓛 R (length ys) (g + 2 * i) (spot_of 𝓤 H E i).1 (made_at 𝓛 R (length ys) g i v E Γ) ys x.name) (runs C Λ E rest q))
         → Seq K 𝓛 Γ (runs C Λ E (seq (assign (place i []) rv) rest) q)
-    lends-made t g R ys {i} {v = v} r wt mk one is room eq next =
+    lends_made t g R ys {i} {v = v} r wt mk one is room eq next =
         let e = ap (λ (x : Ty × List (Item 𝓤)). x.1) eq in
         makes t g r (ap (first 𝓛) e) (subst (λ (σ : Ty). Holds (has_ty σ v) × WT v) (sym (ap (λ (x : Ty × List (Item 𝓤)). x.0) eq)) wt) $
-        lends-pair R (length ys) (g + 2 * i) (spot_of 𝓤 H E i).1 (made_at 𝓛 R (length ys) g i v E Γ) t tt mk one (ap (others 𝓛) e) ys is room (λ x. next (record { name = x; room = room }))
+        lends_pair R (length ys) (g + 2 * i) (spot_of 𝓤 H E i).1 (made_at 𝓛 R (length ys) g i v E Γ) t tt mk one (ap (others 𝓛) e) ys is room (λ x. next (record { name = x; room = room }))
 
-    pub lends-empty : K → (g : ℕ) {i : ℕ} {rest : Body} → found 𝓛 u64 0 g i (array_val []) E Γ ≡ wanted 𝓛 u64 0 g i (array_val []) E Γ
-        → ((x : Token u64 [] (g + 2 * i) (spot_of 𝓤 H E i).1) → Seq K 𝓛 (on-loan 𝓛 u64 0 (g + 2 * i) (spot_of 𝓤 H E i).1 (made_at 𝓛 u64 0 g i (array_val []) E Γ) [] x.name) (runs C Λ E rest q))
+    pub lends_empty : K → (g : ℕ) {i : ℕ} {rest : Body} → found 𝓛 u64 0 g i (array_val []) E Γ ≡ wanted 𝓛 u64 0 g i (array_val []) E Γ
+        → ((x : Token u64 [] (g + 2 * i) (spot_of 𝓤 H E i).1) → Seq K 𝓛 (on_loan 𝓛 u64 0 (g + 2 * i) (spot_of 𝓤 H E i).1 (made_at 𝓛 u64 0 g i (array_val []) E Γ) [] x.name) (runs C Λ E rest q))
         → Seq K 𝓛 Γ (runs C Λ E (seq (assign (place i []) (aggregate [])) rest) q)
-    lends-empty t g eq next = lends-made t g u64 [] (agg t (no_more t)) (tt, tt) (number.makes 𝓛) tt ([], ((refl, refl), tt)) (lit< tt, lit< tt) eq next
+    lends_empty t g eq next = lends_made t g u64 [] (agg t (no_more t)) (tt, tt) (number.makes 𝓛) tt ([], ((refl, refl), tt)) (lit< tt, lit< tt) eq next

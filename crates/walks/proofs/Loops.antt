@@ -17,7 +17,7 @@ use lib.Dec.{T as Holds}
 use lib.ListN.{take, drop as cut}
 use lib.WfN.{lt-wf_rel}
 use seplogic.Ra.Ura.{Ura}
-use seplogic.Ra.TreeShare.{full_share}
+use base.Fraction.{full_share}
 use mir.Syntax.{Ty, ty_bool, copy, Rv as RValue, place, Body, seq, block, loop, assign, cond, skip, exit}
 use mir.Val.{Val, vbool, WT, has_ty}
 use base.Logic.{SProp, ent, id⊢, via, mono_r}
@@ -30,7 +30,7 @@ use contract.Running.{Running}
 use types.Kit.{Item, ‵, mean, ⋆, push, pop, nth, put, Post, post, any_q, at_ret, Goal, prop, runs, aim, Seq, Step, step, ◌$◌, ◌∵◌, !, qed, by}
 use types.Run.{Below, Rv, store, forget, stop, from, assigns_last, first, blocks, loops, again, exec}
 use Rattle.walks.proofs.Over.{On, tabled}
-use Rattle.walks.proofs.Walk.{State, cell, laid, statesOf, var, makes, whiles}
+use Rattle.walks.proofs.Walk.{State, cell, laid, states_of, var, makes, whiles}
 use Rattle.walks.proofs.Parameters.{Par, olds}
 use Rattle.walks.proofs.Entries.{puts}
 
@@ -45,19 +45,19 @@ module _ {M : Type 1} {𝓤 : Ura M} (𝓛 : Logic 𝓤) where
   open 𝓛 use {H}
 
   abbrev pub kept : ℕ → ℕ → List (Item 𝓤) → List (Item 𝓤)
-  kept g n Γ = take g Γ ++ laid 𝓛 (keep n (statesOf 𝓛 (cut g Γ)))
+  kept g n Γ = take g Γ ++ laid 𝓛 (keep n (states_of 𝓛 (cut g Γ)))
 
   -- the same with all of them: it is the context itself
   abbrev pub whole_of : ℕ → List (Item 𝓤) → List (Item 𝓤)
-  whole_of g Γ = take g Γ ++ laid 𝓛 (statesOf 𝓛 (cut g Γ))
+  whole_of g Γ = take g Γ ++ laid 𝓛 (states_of 𝓛 (cut g Γ))
 
-  abbrev pub set-locals : Env 𝓤 H → ℕ → List (ℕ × Val) → List (Item 𝓤) → List (Item 𝓤)
-  set-locals E g [] Γ = Γ
-  set-locals E g (x ∷ xs) Γ = set-locals E g xs (put 𝓛 (g + 2 * x.0) (‵ (fat full_share (spot_of 𝓤 H E x.0).0 (spot_of 𝓤 H E x.0).1 zero x.1)) Γ)
+  abbrev pub set_locals : Env 𝓤 H → ℕ → List (ℕ × Val) → List (Item 𝓤) → List (Item 𝓤)
+  set_locals E g [] Γ = Γ
+  set_locals E g (x ∷ xs) Γ = set_locals E g xs (put 𝓛 (g + 2 * x.0) (‵ (fat full_share (spot_of 𝓤 H E x.0).0 (spot_of 𝓤 H E x.0).1 zero x.1)) Γ)
 
   -- a stage of a loop that was entered at Γ
   abbrev pub stage : Env 𝓤 H → ℕ → ℕ → List ℕ → List (Item 𝓤) → List (ℕ × Val) → List Par → List (Item 𝓤)
-  stage E g n is Γ vs ps = puts 𝓛 is (olds ps) (set-locals E g vs (kept g n Γ))
+  stage E g n is Γ vs ps = puts 𝓛 is (olds ps) (set_locals E g vs (kept g n Γ))
 
   under : (Γ Δ Δ' : List (Item 𝓤)) → ent 𝓤 (⋆ 𝓛 Δ) (⋆ 𝓛 Δ') → ent 𝓤 (⋆ 𝓛 (Γ ++ Δ)) (⋆ 𝓛 (Γ ++ Δ'))
   under [] Δ Δ' h = h
@@ -79,7 +79,7 @@ module _ {M : Type 1} {𝓤 : Ura M} {𝓛 : Logic 𝓤} {K : Type 0} {Γ : List
   pub keeping : K → (g n : ℕ) {G : Goal 𝓤 H} → whole_of 𝓛 g Γ ≡ Γ → Step K 𝓛 (kept 𝓛 g n Γ) G Γ G
   keeping t g n {G} e =
       step (λ s. by t (subst (λ (Δ : List (Item 𝓤)). ent 𝓤 (⋆ 𝓛 Δ) (aim 𝓤 H G)) e
-      (via 𝓤 _ (under 𝓛 (take g Γ) (laid 𝓛 (statesOf 𝓛 (cut g Γ))) (laid 𝓛 (keep n (statesOf 𝓛 (cut g Γ)))) (keeps 𝓛 n (statesOf 𝓛 (cut g Γ)))) s.prf)))
+      (via 𝓤 _ (under 𝓛 (take g Γ) (laid 𝓛 (states_of 𝓛 (cut g Γ))) (laid 𝓛 (keep n (states_of 𝓛 (cut g Γ)))) (keeps 𝓛 n (states_of 𝓛 (cut g Γ)))) s.prf)))
 
 module _ {M : Type 1} {𝓤 : Ura M} {𝓛 : Logic 𝓤} {K : Type 0} {Γ : List (Item 𝓤)} {E : Env 𝓤 𝓛.H} where
   -- the goal of the last statement of a turn is that a stage below has come
@@ -121,7 +121,7 @@ module _ {M : Type 1} {𝓤 : Ura M} {𝓛 : Logic 𝓤} {K : Type 0} {Γ : List
       turns : (x : X) → Seq K 𝓛 (I x) (runs (tabled 𝓣).C (tabled 𝓣).Λ E (seq (assign (place c []) rv) (seq (cond (copy (place c [])) skip (exit 1)) body)) (After x))
       turns x =
           makes t g (reads x) (ap (λ (js : List (Item 𝓤)). nth 𝓛 0 js) (at_c x)) (subst (λ (τ : Ty). Holds (has_ty τ (vbool (test x))) × WT (vbool (test x))) (sym bool) (tt, tt)) $
-          whiles t (var t g (ap (λ (js : List (Item 𝓤)). nth 𝓛 1 js) (at_c x))) (λ h. turn x h (After x) (λ y less. by t (again {W = 𝓛} t (λ (y z : X). μ y < μ z) I x y less).prf)) (λ h. exec t (tabled 𝓣).C (tabled 𝓣).Λ E rest (at_ret E Kf) $ after x h)
+          whiles t (var t g (ap (λ (js : List (Item 𝓤)). nth 𝓛 1 js) (at_c x))) (λ h. turn x h (After x) (λ y less. by t (again {𝓛 = 𝓛} t (λ (y z : X). μ y < μ z) I x y less).prf)) (λ h. exec t (tabled 𝓣).C (tabled 𝓣).Λ E rest (at_ret E Kf) $ after x h)
 
       begun : Seq K 𝓛 (I x₀) (runs (tabled 𝓣).C (tabled 𝓣).Λ E (seq (block (loop (seq (assign (place c []) rv) (seq (cond (copy (place c [])) skip (exit 1)) body)))) rest) (at_ret E Kf))
       begun = first t $ blocks t $ loops t (tabled 𝓣) (λ (y z : X). μ y < μ z) wf I turns x₀

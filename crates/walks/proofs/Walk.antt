@@ -13,12 +13,12 @@ use Prim.Native.Nat.{ℕ, zero, suc, ◌+◌, ◌*◌}
 use lib.Dec.{T, T as Holds}
 use lib.ListN.{drop}
 use seplogic.Ra.Ura.{Ura}
-use seplogic.Ra.TreeShare.{full_share}
+use base.Fraction.{full_share}
 use mir.Syntax.{Lifetime, Mutability, Ty, Tys, ty_ref, Sym, ty_struct, ty_unit, Opd as Operand, copy, Rv as RValue, place, field, deref, addr_of, aggregate, w64, Body, skip, seq, cond, exit, assign, Local, local, Fn}
 use mir.Val.{Val, Vals, vnil, vcons, vstruct, vptr, vint, vbool, WT, has_ty}
 use mir.Fields.{get_v, set_v}
 use base.Logic.{SProp, ent, sep, id⊢, via, mono_r}
-use base.Fml.{Share, Fml, fat, froom, fdies, ftrue, ffalse, feq, flt, fsep, fand, for, fwand, fex, fall, fupd, flft, fdead, fobs, fauth, fres, fbor, fobor, flent, fshr_bor}
+use base.Fml.{Share, Fml, fat, froom, fdies, ftrue, ffalse, feq, flt, fsep, fand, for, fwand, fex, fall, fupd, flft, fdead, fobs, fauth, fres, fbor, fobor, flent, fshr_bor, fhide, fleft, fown, finv, fnamed, ftok, fkid, fme, fsent}
 use prog.Memory.{field_at, field_of}
 use prog.Wp.{Env, Calls, Loops, spot_of, Wp, WpFn, after_seq, exits}
 use types.Logic.{Logic}
@@ -68,13 +68,22 @@ state_of (fbor κ P) = (ty_unit, 0, none)
 state_of (fobor κ q P) = (ty_unit, 0, none)
 state_of (flent κ P) = (ty_unit, 0, none)
 state_of (fshr_bor κ Φ) = (ty_unit, 0, none)
+state_of (fhide P) = (ty_unit, 0, none)
+state_of (fleft s τ τs b o) = (ty_unit, 0, none)
+state_of (fown R γ a) = (ty_unit, 0, none)
+state_of (finv P) = (ty_unit, 0, none)
+state_of (fnamed n P) = (ty_unit, 0, none)
+state_of (ftok E) = (ty_unit, 0, none)
+state_of (fkid h a) = (ty_unit, 0, none)
+state_of (fme a) = (ty_unit, 0, none)
+state_of (fsent h) = (ty_unit, 0, none)
 
 module _ {M : Type 1} {𝓤 : Ura M} (𝓛 : Logic 𝓤) where
   open 𝓛 use {H}
 
-  abbrev pub envOf : (ls : List Local) → Blocks ls → Env 𝓤 H
-  envOf [] bs = []
-  envOf (l ∷ ls) bs = (ty_of l, bs.0) ∷ envOf ls bs.1
+  abbrev pub env_of : (ls : List Local) → Blocks ls → Env 𝓤 H
+  env_of [] bs = []
+  env_of (l ∷ ls) bs = (ty_of l, bs.0) ∷ env_of ls bs.1
 
   abbrev pub cell : Ty → ℕ → Option Val → Item 𝓤
   cell τ b none = ‵ (froom τ b 0)
@@ -87,26 +96,26 @@ module _ {M : Type 1} {𝓤 : Ura M} (𝓛 : Logic 𝓤) where
   cells (l ∷ ls) bs (v ∷ vs) = cell (ty_of l) bs.0 v ∷ ‵ (fdies (ty_of l) bs.0) ∷ cells ls bs.1 vs
 
   -- the same, read off a context
-  abbrev pub itemState : Item 𝓤 → State
-  itemState (‵ F) = state_of F
-  itemState (raw P) = (ty_unit, 0, none)
-  itemState (i ⊛ j) = (ty_unit, 0, none)
-  itemState (some F) = (ty_unit, 0, none)
-  itemState (given φ i) = (ty_unit, 0, none)
-  itemState (later i) = (ty_unit, 0, none)
+  abbrev pub item_state : Item 𝓤 → State
+  item_state (‵ F) = state_of F
+  item_state (raw P) = (ty_unit, 0, none)
+  item_state (i ⊛ j) = (ty_unit, 0, none)
+  item_state (some F) = (ty_unit, 0, none)
+  item_state (given φ i) = (ty_unit, 0, none)
+  item_state (later i) = (ty_unit, 0, none)
 
-  abbrev pub statesOf : List (Item 𝓤) → List State
-  statesOf [] = []
-  statesOf (i ∷ []) = []
-  statesOf (i ∷ j ∷ Γ) = itemState i ∷ statesOf Γ
+  abbrev pub states_of : List (Item 𝓤) → List State
+  states_of [] = []
+  states_of (i ∷ []) = []
+  states_of (i ∷ j ∷ Γ) = item_state i ∷ states_of Γ
 
   abbrev pub laid : List State → List (Item 𝓤)
   laid [] = []
   laid (c ∷ cs) = cell c.0 c.1 c.2 ∷ ‵ (fdies c.0 c.1) ∷ laid cs
 
-  abbrev pub envAt : List State → Env 𝓤 H
-  envAt [] = []
-  envAt (c ∷ cs) = (c.0, c.1) ∷ envAt cs
+  abbrev pub env_at : List State → Env 𝓤 H
+  env_at [] = []
+  env_at (c ∷ cs) = (c.0, c.1) ∷ env_at cs
 
   -- two entries go behind Γ, and come out again
   pub behind : (i j : Item 𝓤) (Γ L : List (Item 𝓤)) → ent 𝓤 (⋆ 𝓛 (i ∷ j ∷ Γ ++ L)) (⋆ 𝓛 (Γ ++ i ∷ j ∷ L))
@@ -131,27 +140,27 @@ module _ {M : Type 1} {𝓤 : Ura M} {𝓛 : Logic 𝓤} {K : Type 0} where
   -- ---- into a function, and out of it
   open 𝓛 use {H}
 
-  allocates : K → (Γ : List (Item 𝓤)) (ls : List Local) {Kt : Env 𝓤 H → Goal 𝓤 H} → ((bs : Blocks ls) → Seq K 𝓛 (Γ ++ cells 𝓛 ls bs []) (Kt (envOf 𝓛 ls bs))) → Seq K 𝓛 Γ (allocs ls Kt)
+  allocates : K → (Γ : List (Item 𝓤)) (ls : List Local) {Kt : Env 𝓤 H → Goal 𝓤 H} → ((bs : Blocks ls) → Seq K 𝓛 (Γ ++ cells 𝓛 ls bs []) (Kt (env_of 𝓛 ls bs))) → Seq K 𝓛 Γ (allocs ls Kt)
   allocates t Γ [] {Kt} k = alloc0 t $ by t (subst (λ (Δ : List (Item 𝓤)). ent 𝓤 (⋆ 𝓛 Δ) (aim 𝓤 H (Kt []))) (append-nil Γ) (k tt).prf)
   allocates t Γ (local τ h ∷ ls) {Kt} k =
       alloc1 t (λ b. allocates t (‵ (froom τ b 0) ∷ ‵ (fdies τ b) ∷ Γ) ls {Kt = λ E. Kt ((τ, b) ∷ E)} (λ bs. by t (via 𝓤 _ (behind 𝓛 (‵ (froom τ b 0)) (‵ (fdies τ b)) Γ (cells 𝓛 ls bs [])) (k (b, bs)).prf)))
 
   pub begins : K → {Γ : List (Item 𝓤)} (C : Calls 𝓤 H) (Λ : Loops 𝓤 H) (f : Fn) (vs : List Val) (Kf : Val → SProp 𝓤)
-      → ((bs : Blocks f.locals) → Seq K 𝓛 (Γ ++ cells 𝓛 f.locals bs []) (params' (envOf 𝓛 f.locals bs) vs (runs C Λ (envOf 𝓛 f.locals bs) f.body (at_ret (envOf 𝓛 f.locals bs) Kf)))) → Seq K 𝓛 Γ (prop (WpFn 𝓤 H C Λ f vs Kf))
+      → ((bs : Blocks f.locals) → Seq K 𝓛 (Γ ++ cells 𝓛 f.locals bs []) (params' (env_of 𝓛 f.locals bs) vs (runs C Λ (env_of 𝓛 f.locals bs) f.body (at_ret (env_of 𝓛 f.locals bs) Kf)))) → Seq K 𝓛 Γ (prop (WpFn 𝓤 H C Λ f vs Kf))
   begins t {Γ} C Λ f vs Kf k = enter t C Λ f vs Kf $ allocates t Γ f.locals k
 
-  frees-cell : K → (Γ : List (Item 𝓤)) (τ : Ty) (b : ℕ) (v : Option Val) {E : Env 𝓤 H} {G : Goal 𝓤 H} → Seq K 𝓛 Γ (frees E G) → Seq K 𝓛 (cell 𝓛 τ b v ∷ ‵ (fdies τ b) ∷ Γ) (frees ((τ, b) ∷ E) G)
-  frees-cell t Γ τ b none s = free1 t $ s
-  frees-cell t Γ τ b (just v) s = forget t 0 refl $ free1 t $ s
+  frees_cell : K → (Γ : List (Item 𝓤)) (τ : Ty) (b : ℕ) (v : Option Val) {E : Env 𝓤 H} {G : Goal 𝓤 H} → Seq K 𝓛 Γ (frees E G) → Seq K 𝓛 (cell 𝓛 τ b v ∷ ‵ (fdies τ b) ∷ Γ) (frees ((τ, b) ∷ E) G)
+  frees_cell t Γ τ b none s = free1 t $ s
+  frees_cell t Γ τ b (just v) s = forget t 0 refl $ free1 t $ s
 
-  frees_all : K → (Γ : List (Item 𝓤)) (cs : List State) {G : Goal 𝓤 H} → Seq K 𝓛 Γ G → Seq K 𝓛 (Γ ++ laid 𝓛 cs) (frees (envAt 𝓛 cs) G)
+  frees_all : K → (Γ : List (Item 𝓤)) (cs : List State) {G : Goal 𝓤 H} → Seq K 𝓛 Γ G → Seq K 𝓛 (Γ ++ laid 𝓛 cs) (frees (env_at 𝓛 cs) G)
   frees_all t Γ [] {G} s = by t (subst (λ (Δ : List (Item 𝓤)). ent 𝓤 (⋆ 𝓛 Δ) (aim 𝓤 H G)) (sym (append-nil Γ)) s.prf)
-  frees_all t Γ (c ∷ cs) {G} s = by t (via 𝓤 _ (before 𝓛 (cell 𝓛 c.0 c.1 c.2) (‵ (fdies c.0 c.1)) Γ (laid 𝓛 cs)) (frees-cell t (Γ ++ laid 𝓛 cs) c.0 c.1 c.2 (frees_all t Γ cs s)).prf)
+  frees_all t Γ (c ∷ cs) {G} s = by t (via 𝓤 _ (before 𝓛 (cell 𝓛 c.0 c.1 c.2) (‵ (fdies c.0 c.1)) Γ (laid 𝓛 cs)) (frees_cell t (Γ ++ laid 𝓛 cs) c.0 c.1 c.2 (frees_all t Γ cs s)).prf)
 
   module _ {Γ : List (Item 𝓤)} {E : Env 𝓤 H} where
-    pub leaves : K → (g : ℕ) (Δ : List (Item 𝓤)) {G : Goal 𝓤 H} → Δ ++ laid 𝓛 (statesOf 𝓛 (drop g Γ)) ≡ Γ → envAt 𝓛 (statesOf 𝓛 (drop g Γ)) ≡ E → Step K 𝓛 Δ G Γ (frees E G)
+    pub leaves : K → (g : ℕ) (Δ : List (Item 𝓤)) {G : Goal 𝓤 H} → Δ ++ laid 𝓛 (states_of 𝓛 (drop g Γ)) ≡ Γ → env_at 𝓛 (states_of 𝓛 (drop g Γ)) ≡ E → Step K 𝓛 Δ G Γ (frees E G)
     leaves t g Δ {G} e e' = step (λ s. by t (subst (λ (Γ' : List (Item 𝓤)). ent 𝓤 (⋆ 𝓛 Γ') (aim 𝓤 H (frees E G))) e
-        (subst (λ (F : Env 𝓤 H). ent 𝓤 (⋆ 𝓛 (Δ ++ laid 𝓛 (statesOf 𝓛 (drop g Γ)))) (aim 𝓤 H (frees F G))) e' (frees_all t Δ (statesOf 𝓛 (drop g Γ)) s).prf)))
+        (subst (λ (F : Env 𝓤 H). ent 𝓤 (⋆ 𝓛 (Δ ++ laid 𝓛 (states_of 𝓛 (drop g Γ)))) (aim 𝓤 H (frees F G))) e' (frees_all t Δ (states_of 𝓛 (drop g Γ)) s).prf)))
 
     -- ---- operands and assignments
     pub var : K → (g : ℕ) {i : ℕ} {s : Share} {v : Val} → nth 𝓛 (g + 2 * i) Γ ≡ ‵ (fat s (spot_of 𝓤 H E i).0 (spot_of 𝓤 H E i).1 zero v) → Opd K 𝓛 Γ E (copy (place i [])) v

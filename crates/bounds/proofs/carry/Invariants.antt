@@ -5,7 +5,7 @@ use native.Mathlib.Omega.{arith}
 use mathlib.Core.Path.{refl}
 use Prim.Native.Nat.{◌-◌}
 use lib.ListN.{length-set}
-use Rattle.bounds.proofs.carry.Invariants.Turns.{Carrying, carry-begin, carry-again, carry-end}
+use Rattle.bounds.proofs.carry.Invariants.Turns.{Carrying, carry_begin, carry_again, carry_end}
 use Rattle.bounds.proofs.carry.Given as goal
 
 abbrev pub invariant-loop-j : goal.invariant-loop-j

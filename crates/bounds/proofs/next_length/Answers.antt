@@ -4,11 +4,11 @@ use Prim.Native.Nat.{◌+◌, ◌-◌, ◌≤◌}
 use Rattle.bounds.specs.Model.Places.{length_count}
 use Rattle.bounds.specs.Model.Tables.{next_in, next_length}
 use Rattle.bounds.proofs.Kept.{sum_small}
-use Rattle.bounds.proofs.next_length.Invariants.Turns.{next-begin, next-found, next-again, next-end}
+use Rattle.bounds.proofs.next_length.Invariants.Turns.{next_begin, next-found, next_again, next_end}
 use Rattle.bounds.proofs.next_length.Goals as goal
 
 pub loop-k-init : goal.loop-k-init
-loop-k-init c = (omega arith, next-begin _ _ _ _)
+loop-k-init c = (omega arith, next_begin _ _ _ _)
 
 pub bounds-work-event : goal.bounds-work-event
 bounds-work-event c = let n = c.requires.small.enough in omega arith
@@ -35,10 +35,10 @@ returns-then-work-event c =
 pub loop-k-preserved : goal.loop-k-preserved
 loop-k-preserved c =
     let l = c.loop-k in
-    (omega arith, next-again _ _ _ l.k _ (omega arith) (omega arith) l.invariant.1)
+    (omega arith, next_again _ _ _ l.k _ (omega arith) (omega arith) l.invariant.1)
 
 pub bounds-work-2049 : goal.bounds-work-2049
 bounds-work-2049 c = let n = c.requires.small.enough in omega arith
 
 pub returns : goal.returns
-returns c = let l = c.loop-k in next-end _ _ _ l.k _ (omega arith) l.invariant.1
+returns c = let l = c.loop-k in next_end _ _ _ l.k _ (omega arith) l.invariant.1

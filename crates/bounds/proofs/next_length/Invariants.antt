@@ -6,7 +6,7 @@ use Prim.Native.Nat.{◌+◌, ◌-◌, ◌≤◌}
 use Rattle.bounds.specs.Model.Places.{length_count}
 use Rattle.bounds.specs.Model.Tables.{next_in, next_length}
 use Rattle.bounds.proofs.Kept.{sum_small}
-use Rattle.bounds.proofs.next_length.Invariants.Turns.{next-begin, next-found, next-again, next-end}
+use Rattle.bounds.proofs.next_length.Invariants.Turns.{next_begin, next-found, next_again, next_end}
 use Rattle.bounds.proofs.next_length.Given as goal
 
 abbrev pub invariant-loop-k : goal.invariant-loop-k

@@ -10,13 +10,13 @@ use Rattle.bounds.specs.Model.Places.{state_end_place, least_place, length_end_p
 use Rattle.bounds.specs.Model.Tables.{noted}
 use Rattle.bounds.proofs.note.Goals as goal
 
-noted-is : (work : List ℕ) (e : Event) (after w : ℕ)
+noted_is : (work : List ℕ) (e : Event) (after w : ℕ)
     → w ≡ min e.weight (get_or (set (set work (state_end_place + e.state) after) (length_end_place + e.length) after)
     (least_place + e.length) 0)
     → set (set (set work (state_end_place + e.state) after) (length_end_place + e.length) after)
     (least_place + e.length) w ≡ noted work e after
 unfolding noted
-noted-is work e after w is =
+noted_is work e after w is =
     ap (set (set (set work (state_end_place + e.state) after) (length_end_place + e.length) after) (least_place + e.length)) is
 
 pub bounds-work-last : goal.bounds-work-last
@@ -29,4 +29,4 @@ pub bounds-work-least-2 : goal.bounds-work-least-2
 bounds-work-least-2 c = simp length-set (omega arith)
 
 pub returns : goal.returns
-returns c = noted-is _ _ _ _ c.smaller-w.ensures
+returns c = noted_is _ _ _ _ c.smaller-w.ensures

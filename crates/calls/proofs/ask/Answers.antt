@@ -8,7 +8,7 @@ use Rattle.jobs.specs.declared.Job.{Job}
 use Rattle.jobs.specs.declared.Plan.{Plan}
 use Rattle.jobs.specs.Model.Steps.{row_order}
 use Rattle.order.proofs.FirstNo.{refused_first, refused_later}
-use Rattle.order.proofs.Asked.{numbered-order}
+use Rattle.order.proofs.Asked.{numbered_order}
 use Rattle.calls.specs.Calls.{order_of_row, job_questions, questions}
 use Rattle.calls.specs.Model.Plans.{call_in}
 use Rattle.calls.proofs.ask.Goals as goal
@@ -26,13 +26,10 @@ of-counts job m entries counts plain undetected work r is e = e ∙ ap (λ (x : 
 pub returns-then-why-ne0 : goal.returns-then-why-ne0
 unfolding questions
 returns-then-why-ne0 c =
-    let why = c in
-    refused_first _ _ _ (numbered-order _ _) (of_row _ _ _ why.row_order.ensures why.ask_order-why.ensures) c.if-why-ne0.true
+    refused_first _ _ _ (numbered_order _ _) (of_row _ _ _ c.row_order.ensures c.ask_order-why.ensures) c.if-why-ne0.true
 
 pub returns : goal.returns
 unfolding questions order_in
 returns c =
-    let passed = c in
-    let why = passed in
-    refused_later _ _ _ _ (numbered-order _ _) (of_row _ _ _ why.row_order.ensures why.ask_order-why.ensures) passed.if-why-ne0.false
+    refused_later _ _ _ _ (numbered_order _ _) (of_row _ _ _ c.row_order.ensures c.ask_order-why.ensures) c.if-why-ne0.false
     (of-counts _ _ _ _ _ _ _ _ c.counted_weights.ensures c.ask_job.ensures)

@@ -1,7 +1,6 @@
 -- By the job.
 use Prim.Native.Nat.{ℕ}
 use mathlib.Core.Path.{◌≡◌, sym, ap, ◌∙◌}
-use borrow.Author.Rules.{rules}
 use Rattle.order.specs.Questions.{first_no}
 use Rattle.jobs.specs.declared.Job.{Job}
 use Rattle.calls.specs.Calls.{job_questions}
@@ -13,20 +12,20 @@ for-job m entries plain undetected work e h = h ∙ ap (λ (x : Job). first_no (
 
 pub returns-in-Collect : goal.returns-in-Collect
 unfolding job_questions
-returns-in-Collect c = let a = c.args in for-job a.m a.entries a.plain a.undetected a.size c.enum_told-1.given.1 c.ask_work.ensures
+returns-in-Collect c = let a = c.args in for-job a.m a.entries a.plain a.undetected a.size c.in-Collect.is c.ask_work.ensures
 
 pub returns-in-List : goal.returns-in-List
 unfolding job_questions
-returns-in-List c = let a = c.args in for-job a.m a.entries a.plain a.undetected a.size c.enum_told-in-List-1.given.1 c.ask_counts.ensures
+returns-in-List c = let a = c.args in for-job a.m a.entries a.plain a.undetected a.size c.in-List.is c.ask_counts.ensures
 
 pub returns-in-Choose : goal.returns-in-Choose
 unfolding job_questions
-returns-in-Choose c = let a = c.args in for-job a.m a.entries a.plain a.undetected a.size c.enum_told-in-Choose-1.given.1 c.ask_both.ensures
+returns-in-Choose c = let a = c.args in for-job a.m a.entries a.plain a.undetected a.size c.in-Choose.is c.ask_both.ensures
 
 pub returns-in-ChooseFor : goal.returns-in-ChooseFor
 unfolding job_questions
-returns-in-ChooseFor c = let a = c.args in for-job a.m a.entries a.plain a.undetected a.size c.enum_told-in-ChooseFor-1.given.1 c.ask_both-in-ChooseFor.ensures
+returns-in-ChooseFor c = let a = c.args in for-job a.m a.entries a.plain a.undetected a.size c.in-ChooseFor.is c.ask_both-in-ChooseFor.ensures
 
 pub returns-in-Count : goal.returns-in-Count
 unfolding job_questions
-returns-in-Count c = let a = c.args in for-job a.m a.entries a.plain a.undetected a.size c.job-1.given.1 c.ask_polynomial.ensures
+returns-in-Count c = let a = c.args in for-job a.m a.entries a.plain a.undetected a.size c.in-Count.is c.ask_polynomial.ensures

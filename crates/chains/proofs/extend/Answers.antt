@@ -3,7 +3,7 @@ pub mod Joint
 use borrow.Author.Rules.{rules}
 use native.Mathlib.Omega.{arith}
 use Rattle.bounds.specs.Model.Tables.{bits_at}
-use Rattle.chains.proofs.extend.Answers.Joint.{input-up, joined-halves}
+use Rattle.chains.proofs.extend.Answers.Joint.{input_up, joined-halves}
 use Rattle.chains.proofs.extend.Goals as goal
 
 pub join_input-w-requires : goal.join_input-w-requires
@@ -12,7 +12,7 @@ join_input-w-requires c =
     let ask = start.requires in
     record {
       below = rw c.make.ensures ask.unfinished.word_small;
-      fits = input-up ask _ c.make-2.ensures;
+      fits = input_up ask _ c.make-2.ensures;
     }
 
 pub returns : goal.returns

@@ -1,5 +1,4 @@
 -- A power of two up to 2 ^ 12 and an even number below it, and 1: far below 2 ^ 64.
-use borrow.Author.Rules.{rules}
 use native.Mathlib.Omega.{arith}
 use Prim.Native.Nat.{◌-◌}
 use Rattle.choice.proofs.Candidates.{power_small}

@@ -1,21 +1,13 @@
 -- The outer invariant: the first k candidates have been compared. The inner: candidate k and the best agree before entry j, whose words
 -- begin at place `at`.
-use borrow.Author.Tests.{not-true, not-false}
-use native.Mathlib.Omega.{arith}
-use mathlib.Core.Path.{◌≡◌, refl, sym, ap₂, ◌∙◌}
-use mathlib.Core.Bool.{Bool, true, false}
+use mathlib.Core.Path.{◌≡◌}
+use mathlib.Core.Bool.{Bool}
 use mathlib.Core.List.{List}
-use Prim.Native.Nat.{ℕ, ◌+◌, ◌-◌, ◌*◌, ◌^◌, ◌≤◌, ◌<◌}
-use lib.ListN.{length, get_or}
-use Rattle.parity.specs.Model.Parity.{Divisor}
+use Prim.Native.Nat.{ℕ, ◌-◌, ◌≤◌}
 use Rattle.paths.specs.Part.{paths_to}
-use Rattle.paths.proofs.Parts.{sum_none}
 use Rattle.undetected.specs.Model.Steps.{divided_counts}
-use Rattle.undetected.proofs.Counted.{before-next, before-end}
-use Rattle.choice.proofs.Candidates.{few_candidates, candidate_divisor}
-use Rattle.choice.proofs.Weighed.{Agree, Verdict, verdict}
-use Rattle.choice.proofs.Comparing.{best_of, best-length, Met, met_same, met-limit, met-length}
-use Rattle.choice.proofs.Comparing.{first-offered, met-begin, met-down, met-worse, met-better, met-level, met-end}
+use Rattle.choice.proofs.Weighed.{Agree}
+use Rattle.choice.proofs.Comparing.{Met}
 use Rattle.choice.proofs.compare.Given as goal
 
 pub record Level (m entries : ℕ) (table plain undetected₀ undetected : List ℕ) (alive₀ alive : List Bool) (k₀ k p at j : ℕ) : Type 0 where
@@ -25,9 +17,6 @@ pub record Level (m entries : ℕ) (table plain undetected₀ undetected : List 
   pub within : j ≤ entries
   pub placed : at ≡ paths_to plain j
   pub agree : Agree j (divided_counts m table plain entries p) undetected
-
-abbrev pub at : Counted → At
-at c = c
 
 abbrev pub invariant-loop-j : goal.invariant-loop-j
 invariant-loop-j l =

@@ -1,11 +1,8 @@
 -- The invariant: those alive below k are counted.
-use native.Mathlib.Omega.{arith}
-use mathlib.Core.Path.{◌≡◌, ◌∙◌}
-use mathlib.Core.Logic.{⊎_elim}
+use mathlib.Core.Path.{◌≡◌}
 use Prim.Native.Nat.{◌-◌, ◌≤◌}
 use lib.ListN.{length}
 use Rattle.choice.specs.Model.Steps.{alive_below}
-use Rattle.choice.proofs.Flags.{counted_none, counted-up, counted-down, counted-few, counted-all}
 use Rattle.choice.proofs.count_alive.Given as goal
 
 abbrev pub invariant-loop-k : goal.invariant-loop-k

@@ -1,7 +1,4 @@
 use native.Mathlib.Omega.{arith}
-use mathlib.Core.Path.{◌≡◌}
-use Prim.Native.Nat.{◌-◌, ◌≤◌}
-use Rattle.choice.specs.Model.Steps.{dropped}
 use Rattle.choice.proofs.Flags.{dropped_none, dropped_more, dropped-all}
 use Rattle.choice.proofs.drop_before.Goals as goal
 

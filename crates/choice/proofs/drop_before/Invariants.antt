@@ -1,9 +1,7 @@
 -- The invariant: the flags before j are down, the others as they came.
-use native.Mathlib.Omega.{arith}
 use mathlib.Core.Path.{◌≡◌}
 use Prim.Native.Nat.{◌-◌, ◌≤◌}
 use Rattle.choice.specs.Model.Steps.{dropped}
-use Rattle.choice.proofs.Flags.{dropped_none, dropped_more, dropped-all}
 use Rattle.choice.proofs.drop_before.Given as goal
 
 abbrev pub invariant-loop-j : goal.invariant-loop-j

@@ -1,8 +1,4 @@
 use native.Mathlib.Omega.{arith}
-use mathlib.Core.Path.{◌≡◌}
-use mathlib.Core.List.{[]}
-use Prim.Native.Nat.{◌-◌, ◌≤◌}
-use Rattle.choice.specs.Model.Steps.{alive_below}
 use Rattle.choice.proofs.Flags.{none_below, none_more, first_up, first_none}
 use Rattle.choice.proofs.first_alive.Goals as goal
 

@@ -2,14 +2,14 @@
 use mathlib.Core.Path.{sym}
 use native.Mathlib.Omega.{arith}
 use lib.Seq.{length-take-le}
-use Rattle.order.proofs.Asked.{few-in, four_are}
+use Rattle.order.proofs.Asked.{few_in, four_are}
 use Rattle.code.proofs.weight_in.Goals as goal
 
 pub slice_bounds-all-end : goal.slice_bounds-all-end
-slice_bounds-all-end c = let few = few-in _ c.requires.code in omega (arith, c.generators_of-all.ensures.1)
+slice_bounds-all-end c = let few = few_in _ c.requires.code in omega (arith, c.generators_of-all.ensures.1)
 
 pub slice_bounds-weigh_steps-end : goal.slice_bounds-weigh_steps-end
-slice_bounds-weigh_steps-end c = let few = few-in _ c.requires.code in sym (length-take-le _ _ (omega (arith, c.generators_of-all.ensures.1)))
+slice_bounds-weigh_steps-end c = let few = few_in _ c.requires.code in sym (length-take-le _ _ (omega (arith, c.generators_of-all.ensures.1)))
 
 pub weigh_steps-requires : goal.weigh_steps-requires
 weigh_steps-requires c =

@@ -1,5 +1,5 @@
--- Outputs, weight and codeword by products modulo x^T + 1 (a model): both kinds of link send these. On a tail_biting link T is N; a terminated word
--- of N bits is such a word of N + v bits, since its ordinary products have no more bits. `proofs/Links.antt` proves it (`weight-is-cyclic`).
+-- Outputs, weight and codeword by products modulo x^T + 1 (a model): both kinds of link send these. On a tail-biting link T is N; a terminated word
+-- of N bits is such a word of N + v bits, since its ordinary products have no more bits. `proofs/Links.antt` proves it (`weight_is_cyclic`).
 -- Assumes nothing.
 use Rattle.std.specs.Prelude.{ℕ, ◌+◌, ◌^◌}
 use mathlib.Core.List.{List, [], ◌∷◌, map, flat_map}

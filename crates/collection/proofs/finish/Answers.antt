@@ -1,5 +1,4 @@
 -- The node with the length at hand.
-use borrow.Author.Rules.{rules}
 use mathlib.Core.Path.{refl}
 use Rattle.collection.specs.Model.Backward.{finished}
 use Rattle.collection.proofs.finish.Goals as goal

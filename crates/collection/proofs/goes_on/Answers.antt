@@ -1,5 +1,4 @@
 -- The first node, or the weight so far and the least weight.
-use borrow.Author.Rules.{rules}
 use Rattle.collection.proofs.Nodes.{goes_root, goes_below, sum_fits}
 use Rattle.collection.proofs.goes_on.Goals as goal
 

@@ -1,22 +1,21 @@
 -- The state before and its sums, which are small.
-use borrow.Author.Rules.{rules}
 use native.Mathlib.Omega.{arith}
 use mathlib.Core.Path.{ap}
 use Prim.Native.Nat.{ℕ, ◌+◌, ◌-◌, ◌*◌, ◌/◌, ◌%◌, ◌^◌}
 use Rattle.poly.proofs.Shifts.{push_high_fits}
 use Rattle.needed.specs.Model.Tables.{half_at}
 use Rattle.collection.specs.Model.Backward.{earlier}
-use Rattle.collection.proofs.Nodes.{top-fits, state_fits, step-before, weight_fits}
+use Rattle.collection.proofs.Nodes.{top_fits, state_fits, step_before, weight_fits}
 use Rattle.collection.proofs.step_back.Goals as goal
 
 pub overflow_mul-state : goal.overflow_mul-state
-overflow_mul-state c = record { fits = top-fits _ c.args.node _ c.requires }
+overflow_mul-state c = record { fits = top_fits _ c.args.node _ c.requires }
 
 pub overflow_add-state : goal.overflow_add-state
 overflow_add-state c = record { fits = state_fits _ _ _ c.requires }
 
 pub step_at-step-requires : goal.step_at-step-requires
-step_at-step-requires c = step-before _ _ _ c.requires
+step_at-step-requires c = step_before _ _ _ c.requires
 
 pub overflow_add-result : goal.overflow_add-result
 overflow_add-result c = record { fits = weight_fits _ _ _ c.requires _ c.step_at-step.ensures }
@@ -29,11 +28,10 @@ overflow_add-result-3 c =
 pub returns : goal.returns
 unfolding earlier
 returns c =
-    let start = c in
-    let e = start.args.node in
-    let half = half_at start.args.work.now in
+    let e = c.args.node in
+    let half = half_at c.args.work.now in
     ap (λ (step : ℕ). record {
-      state = e.state / 2 + start.args.top * half;
+      state = e.state / 2 + c.args.top * half;
       left = e.left - 1;
       weight = e.weight + step;
       low = e.low * 2 % 2 ^ 64 + e.state % 2;

@@ -2,23 +2,22 @@
 use mathlib.Core.Path.{sym, ap, ◌∙◌}
 use native.Mathlib.Nat.{le_of_lt}
 use native.Mathlib.Omega.{arith}
-use borrow.Author.Tests.{not-true, not-false, ltb-true}
+use borrow.Author.Tests.{ltb-true}
 use Rattle.order.specs.Answer.{accepted}
 use Rattle.crc.specs.Check.{append_call}
-use Rattle.crc.proofs.Calls.{accepted_polynomial, refused-early, refused-late, answered, shifted_lt, shifted_fits, append_parts}
-use borrow.Author.Rules.{rules}
+use Rattle.crc.proofs.Calls.{accepted_polynomial, refused_early, refused_late, answered, shifted_lt, shifted_fits, append_parts}
 use Rattle.crc.proofs.append.Goals as goal
 
 pub returns-then-refusal-ne0 : goal.returns-then-refusal-ne0
 unfolding append_call
-returns-then-refusal-ne0 c = refused-early _ _ _ _ _ _ _ c.ask_polynomial-refusal.ensures c.if-refusal-ne0.true
+returns-then-refusal-ne0 c = refused_early _ _ _ _ _ _ _ c.ask_polynomial-refusal.ensures c.if-refusal-ne0.true
 
 pub overflow_sub-bits : goal.overflow_sub-bits
 overflow_sub-bits c = let a = c.args in let g = accepted_polynomial a.bits a.m a.polynomial (sym c.ask_polynomial-refusal.ensures ∙ c.if-refusal-ne0.false) in le_of_lt g.degree-below
 
 pub returns-then-not-is_below : goal.returns-then-not-is_below
 unfolding append_call
-returns-then-not-is_below c = refused-late _ _ _ _ _ _ _ c.ask_polynomial-refusal.ensures c.if-refusal-ne0.false (sym c.is_below.ensures ∙ c.if-not-is_below.true)
+returns-then-not-is_below c = refused_late _ _ _ _ _ _ _ c.ask_polynomial-refusal.ensures c.if-refusal-ne0.false (sym c.is_below.ensures ∙ c.if-not-is_below.true)
 
 pub shift_up-shifted-requires : goal.shift_up-shifted-requires
 shift_up-shifted-requires c =

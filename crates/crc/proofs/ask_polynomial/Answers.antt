@@ -1,9 +1,7 @@
 -- The first of three tests that fails, or none.
 use mathlib.Core.Path.{sym, ◌∙◌}
-use borrow.Author.Tests.{not-true, not-false}
 use Rattle.order.proofs.FirstNo.{first_no_none, first_no_yes, first_no_no}
 use Rattle.crc.specs.Check.{polynomial_questions}
-use borrow.Author.Rules.{rules}
 use Rattle.crc.proofs.ask_polynomial.Goals as goal
 
 pub returns-then-not-from_to : goal.returns-then-not-from_to

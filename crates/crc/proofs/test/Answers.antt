@@ -1,20 +1,19 @@
 -- Refused by one of the questions, or the remainder decides.
 use mathlib.Core.Path.{sym, ap, ◌∙◌}
-use borrow.Author.Tests.{not-true, not-false, ltb-true}
+use borrow.Author.Tests.{ltb-true}
 use Rattle.order.specs.Answer.{accepted}
 use Rattle.crc.specs.Check.{test_call}
-use Rattle.crc.proofs.Calls.{accepted_polynomial, refused-early, refused-late, answered}
+use Rattle.crc.proofs.Calls.{accepted_polynomial, refused_early, refused_late, answered}
 use Rattle.crc.proofs.Laws.{test_zero, test_nonzero}
-use borrow.Author.Rules.{rules}
 use Rattle.crc.proofs.test.Goals as goal
 
 pub returns-then-refusal-ne0 : goal.returns-then-refusal-ne0
 unfolding test_call
-returns-then-refusal-ne0 c = refused-early _ _ _ _ _ _ _ c.ask_polynomial-refusal.ensures c.if-refusal-ne0.true
+returns-then-refusal-ne0 c = refused_early _ _ _ _ _ _ _ c.ask_polynomial-refusal.ensures c.if-refusal-ne0.true
 
 pub returns-then-not-is_below : goal.returns-then-not-is_below
 unfolding test_call
-returns-then-not-is_below c = refused-late _ _ _ _ _ _ _ c.ask_polynomial-refusal.ensures c.if-refusal-ne0.false (sym c.is_below.ensures ∙ c.if-not-is_below.true)
+returns-then-not-is_below c = refused_late _ _ _ _ _ _ _ c.ask_polynomial-refusal.ensures c.if-refusal-ne0.false (sym c.is_below.ensures ∙ c.if-not-is_below.true)
 
 pub remainder_of-r-requires : goal.remainder_of-r-requires
 remainder_of-r-requires c =

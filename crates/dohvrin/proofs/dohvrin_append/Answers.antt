@@ -2,7 +2,6 @@
 use Rattle.crc.specs.Check.{append_call}
 use mathlib.Core.Path.{ap, ◌∙◌}
 use Rattle.answers.proofs.Hosts.{append_answer}
-use borrow.Author.Rules.{rules}
 use Rattle.dohvrin.proofs.dohvrin_append.Goals as goal
 
 pub returns : goal.returns

@@ -2,12 +2,11 @@
 use Prim.Native.Nat.{ℕ}
 use mathlib.Core.Path.{◌≡◌, ap, ◌∙◌}
 use mathlib.Core.List.{List}
-use borrow.Author.Rules.{rules}
 use Rattle.order.specs.Order.{Order}
 use Rattle.order.specs.Answer.{Answer}
 use Rattle.row.specs.declared.Row.{Row}
 use Rattle.text.specs.Calls.{row_call}
-use Rattle.answers.proofs.Hosts.{text-answer}
+use Rattle.answers.proofs.Hosts.{text_answer}
 use Rattle.dohvrin.proofs.dohvrin_row_text.Goals as goal
 
 -- the answer that was handed back is the one that is written
@@ -17,4 +16,4 @@ handed o plain undetected text a b e h = h ∙ ap (λ (y : Answer Row). row_call
 pub returns : goal.returns
 returns c =
     let call = c in
-    text-answer _ call.write_row.result _ _ c.written.ensures (handed _ _ _ _ _ _ call.answer_of.ensures call.write_row.ensures)
+    text_answer _ call.write_row.result _ _ c.written.ensures (handed _ _ _ _ _ _ call.answer_of.ensures call.write_row.ensures)

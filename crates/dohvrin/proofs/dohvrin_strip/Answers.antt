@@ -2,7 +2,6 @@
 use Rattle.crc.specs.Check.{strip_call}
 use mathlib.Core.Path.{ap, ◌∙◌}
 use Rattle.answers.proofs.Hosts.{strip_answer}
-use borrow.Author.Rules.{rules}
 use Rattle.dohvrin.proofs.dohvrin_strip.Goals as goal
 
 pub returns : goal.returns

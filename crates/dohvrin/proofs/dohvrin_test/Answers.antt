@@ -2,7 +2,6 @@
 use mathlib.Core.Path.{ap, ◌∙◌}
 use Rattle.crc.specs.Check.{test_call}
 use Rattle.answers.proofs.Hosts.{test_answer}
-use borrow.Author.Rules.{rules}
 use Rattle.dohvrin.proofs.dohvrin_test.Goals as goal
 
 pub returns : goal.returns

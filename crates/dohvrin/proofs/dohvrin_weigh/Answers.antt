@@ -2,7 +2,6 @@
 use mathlib.Core.Path.{ap, ◌∙◌}
 use Rattle.code.specs.Calls.{weigh_call}
 use Rattle.answers.proofs.Hosts.{weigh_answer}
-use borrow.Author.Rules.{rules}
 use Rattle.dohvrin.proofs.dohvrin_weigh.Goals as goal
 
 pub returns : goal.returns

@@ -2,11 +2,11 @@
 use borrow.Author.Rules.{rules}
 use native.Mathlib.Omega.{arith}
 use mathlib.Core.Path.{◌∙◌}
-use Rattle.filling.proofs.Settled.{settled-full, settled-sorted}
+use Rattle.filling.proofs.Settled.{settled_full, settled_sorted}
 use Rattle.filling.proofs.settle.Goals as goal
 
 pub returns-then-paths-next : goal.returns-then-paths-next
-returns-then-paths-next c = settled-full _ _ _ _ _ c.if-paths-next.true
+returns-then-paths-next c = settled_full _ _ _ _ _ c.if-paths-next.true
 
 pub sort-requires : goal.sort-requires
 sort-requires c = c.requires.narrow c.if-paths-next.false
@@ -18,4 +18,4 @@ pub overflow_sub-plain-2 : goal.overflow_sub-plain-2
 overflow_sub-plain-2 c = omega (arith, c.requires.some_weight)
 
 pub returns : goal.returns
-returns c = let t = settled-sorted _ _ _ _ _ c.if-paths-next.false in (c.sort.ensures ∙ t.0, t.1)
+returns c = let t = settled_sorted _ _ _ _ _ c.if-paths-next.false in (c.sort.ensures ∙ t.0, t.1)

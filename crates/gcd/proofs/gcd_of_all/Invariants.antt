@@ -5,7 +5,7 @@ use native.Mathlib.Omega.{arith}
 use lib.ListN.{length, drop}
 use borrow.Author.Rules.{rules}
 use Rattle.gcd.specs.Model.Gcd.{gcd_with, gcd_all}
-use Rattle.gcd.proofs.Euclid.{gcdWith-next, gcdWith-end}
+use Rattle.gcd.proofs.Euclid.{gcd_with-next, gcd_with_end}
 use Rattle.gcd.proofs.gcd_of_all.Given as goal
 
 abbrev pub invariant-loop-i : goal.invariant-loop-i

@@ -1,5 +1,4 @@
 -- Chosen over a list of zeros.
-use borrow.Author.Rules.{rules}
 use Rattle.jobs.proofs.best_of.Goals as goal
 
 pub returns : goal.returns

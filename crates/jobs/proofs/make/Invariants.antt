@@ -1,2 +1,1 @@
 pub mod Told
-use Rattle.jobs.proofs.make.Given as goal

@@ -1,5 +1,4 @@
 -- The order with the length of the row.
-use borrow.Author.Rules.{rules}
 use Rattle.jobs.specs.Model.Steps.{row_order}
 use Rattle.jobs.proofs.row_order.Goals as goal
 

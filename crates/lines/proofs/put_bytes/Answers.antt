@@ -1,12 +1,10 @@
-use Prim.Native.Nat.{ℕ, ◌+◌, ◌-◌, ◌≤◌, zero-le}
+use Prim.Native.Nat.{◌+◌, zero-le}
 use native.Mathlib.Nat.{add-zero, add_assoc, le_refl}
 use native.Mathlib.Numerals.{add-one}
 use native.Mathlib.Omega.{arith}
-use mathlib.Core.Path.{◌≡◌, refl, sym, ap, ◌∙◌}
-use mathlib.Core.List.{List}
+use mathlib.Core.Path.{refl, sym, ap, ◌∙◌}
 use lib.ListN.{length, take, length-set}
 use lib.Seq.{take-suc, take_all}
-use Rattle.lines.specs.Model.Steps.{Put}
 use Rattle.lines.proofs.Puts.{put_none, put_byte, put_as, put_to, put_most, joined}
 use Rattle.lines.proofs.put_bytes.Goals as goal
 
@@ -25,9 +23,6 @@ loop-i-preserved c =
       same_size = length-set l.buffer (a.at + l.i) _ ∙ l.invariant.same_size;
       so_far = put_to (add_assoc a.at l.i 1) (put_as one (joined l.invariant.so_far (put_byte l.buffer (a.at + l.i) _ refl)));
     }
-
-pub shape_of-buffer : goal.shape_of-buffer
-shape_of-buffer c = c.loop-i.invariant.same_size
 
 pub returns : goal.returns
 returns c =

@@ -1,14 +1,9 @@
 -- The invariant: the first i bytes have been stored.
-use Prim.Native.Nat.{ℕ, ◌+◌, ◌-◌, ◌≤◌, zero-le}
-use native.Mathlib.Nat.{add-zero, add_assoc, le_refl}
-use native.Mathlib.Numerals.{add-one}
-use native.Mathlib.Omega.{arith}
-use mathlib.Core.Path.{◌≡◌, refl, sym, ap, ◌∙◌}
+use Prim.Native.Nat.{ℕ, ◌+◌, ◌-◌, ◌≤◌}
+use mathlib.Core.Path.{◌≡◌}
 use mathlib.Core.List.{List}
-use lib.ListN.{length, take, length-set}
-use lib.Seq.{take-suc, take_all}
+use lib.ListN.{length, take}
 use Rattle.lines.specs.Model.Steps.{Put}
-use Rattle.lines.proofs.Puts.{put_none, put_byte, put_as, put_to, put_most, joined}
 use Rattle.lines.proofs.put_bytes.Given as goal
 
 pub record Copying (buffer₀ : List ℕ) (at : ℕ) (bytes buffer : List ℕ) (i : ℕ) : Type 0 where

@@ -1,12 +1,11 @@
-use Prim.Native.Nat.{◌+◌, ◌*◌, ◌-◌, ◌≤◌, zero-le}
+use Prim.Native.Nat.{◌+◌, ◌*◌, zero-le}
 use native.Mathlib.Omega.{arith}
 use mathlib.Core.Path.{◌≡◌, sym, ap}
 use mathlib.Core.List.{flat_map}
 use Rattle.lists.specs.Lists.{up_from}
 use Rattle.lines.specs.Lines.{count_line}
-use Rattle.lines.specs.Model.Steps.{Put}
 use Rattle.lines.proofs.Puts.{put_none, put_as, put_most, joined, put_same_length}
-use Rattle.lines.proofs.Pieces.{range-more}
+use Rattle.lines.proofs.Pieces.{range_more}
 use Rattle.lines.proofs.put_counts.Goals as goal
 
 pub loop-k-init : goal.loop-k-init
@@ -29,10 +28,7 @@ loop-k-preserved c =
     let l = top.loop-k in
     let more = joined l.invariant.1 c.put_count-end.ensures in
     let within = put_most (51 * (l.k + 1)) more (omega (arith, more.short)) in
-    (omega arith, put_as (sym (range-more (count_line a.plain.now a.undetected.now) l.k)) within)
-
-pub shape_of-buffer : goal.shape_of-buffer
-shape_of-buffer c = put_same_length c.loop-k.invariant.1
+    (omega arith, put_as (sym (range_more (count_line a.plain.now a.undetected.now) l.k)) within)
 
 pub returns : goal.returns
 returns c =

@@ -1,13 +1,9 @@
 -- The invariant: the lines of the first k entries, of weights 1 to k, have been put.
-use Prim.Native.Nat.{◌+◌, ◌*◌, ◌-◌, ◌≤◌, zero-le}
-use native.Mathlib.Omega.{arith}
-use mathlib.Core.Path.{◌≡◌, sym, ap}
+use Prim.Native.Nat.{◌*◌, ◌-◌, ◌≤◌}
 use mathlib.Core.List.{flat_map}
 use Rattle.lists.specs.Lists.{up_from}
 use Rattle.lines.specs.Lines.{count_line}
 use Rattle.lines.specs.Model.Steps.{Put}
-use Rattle.lines.proofs.Puts.{put_none, put_as, put_most, joined, put_same_length}
-use Rattle.lines.proofs.Pieces.{range-more}
 use Rattle.lines.proofs.put_counts.Given as goal
 
 abbrev pub invariant-loop-k : goal.invariant-loop-k

@@ -2,7 +2,7 @@
 use Prim.Native.Nat.{◌-◌}
 use native.Mathlib.Omega.{arith}
 use lib.ListN.{length, length-set}
-use Rattle.lists.proofs.Stores.{Filled, filled-begin, filled-again, filled-end}
+use Rattle.lists.proofs.Stores.{Filled, filled_begin, filled_again, filled_end}
 use Rattle.lists.proofs.clear_words.Given as goal
 
 abbrev pub invariant-loop-i : goal.invariant-loop-i

@@ -1,15 +1,9 @@
 -- The invariant: the flags before k are up where the rank is the largest.
-use borrow.Author.Rules.{rules}
-use native.Mathlib.Omega.{arith}
-use mathlib.Core.Path.{refl, ◌∙◌, subst}
 use mathlib.Core.Bool.{false}
-use Prim.Native.Nat.{ℕ, ◌-◌, ◌≤◌, ◌<◌}
+use Prim.Native.Nat.{◌-◌, ◌≤◌}
 use lib.Dec.{leb}
 use lib.ListN.{get_or}
-use Rattle.choice.proofs.Candidates.{few_candidates}
-use Rattle.narrowing.specs.Model.Firsts.{LargestBelow}
-use Rattle.narrowing.proofs.Largest.{largest-all}
-use Rattle.narrowing.proofs.Written.{Written, written_none, written_next}
+use Rattle.narrowing.proofs.Written.{Written}
 use Rattle.narrowing.proofs.keep_largest.Given as goal
 
 abbrev pub invariant-loop-k : goal.invariant-loop-k

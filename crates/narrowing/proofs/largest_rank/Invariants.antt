@@ -1,11 +1,6 @@
 -- The invariant: the largest of the ranks before place k.
-use borrow.Author.Rules.{rules}
-use native.Mathlib.Omega.{arith}
-use mathlib.Core.Path.{◌≡◌, sym, subst}
-use mathlib.Core.Logic.{⊎_elim}
-use Prim.Native.Nat.{ℕ, ◌-◌, ◌≤◌}
+use Prim.Native.Nat.{◌-◌, ◌≤◌}
 use Rattle.narrowing.specs.Model.Firsts.{LargestBelow}
-use Rattle.narrowing.proofs.Largest.{largest-none, largest-risen, largest-same}
 use Rattle.narrowing.proofs.largest_rank.Given as goal
 
 abbrev pub invariant-loop-k : goal.invariant-loop-k

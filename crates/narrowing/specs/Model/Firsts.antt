@@ -1,5 +1,5 @@
 -- What the code keeps: the first undetected weights of a candidate at several lengths as one number, so that narrowing length by length keeps just those
--- whose number is largest (`narrowed-by-rank`, proofs/Rank.antt). Lengths are listed from the shortest to the longest, so each new one goes on top.
+-- whose number is largest (`narrowed_by_rank`, proofs/Rank.antt). Lengths are listed from the shortest to the longest, so each new one goes on top.
 -- Assumes nothing.
 use Rattle.std.specs.Prelude.{ℕ, ◌+◌, ◌-◌, ◌*◌, ◌^◌, ◌≤◌, ◌<◌, ◌≡◌, Bool, false, ◌⊎◌, List, [], ◌∷◌, leb, length, get_or, replicate}
 use Rattle.lists.specs.Lists.{up_from, all}

@@ -1,9 +1,7 @@
 -- The invariant: the rows from i on decide.
-use mathlib.Core.Path.{◌≡◌, sym, ◌∙◌}
+use mathlib.Core.Path.{◌≡◌}
 use Prim.Native.Nat.{◌-◌, ◌≤◌}
-use native.Mathlib.Omega.{arith}
 use Rattle.parity.specs.Model.Parity.{even_from, all_even}
-use Rattle.parity.proofs.Checks.{rows_all, four-odd, four-even}
 use Rattle.parity.proofs.all_even.Given as goal
 
 abbrev pub invariant-loop-i : goal.invariant-loop-i

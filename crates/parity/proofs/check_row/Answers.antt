@@ -1,8 +1,7 @@
 use mathlib.Core.Path.{◌≡◌, ap, ap₂, ◌∙◌}
-use Prim.Native.Nat.{ℕ, ◌+◌, ◌-◌, ◌*◌, ◌/◌, ◌%◌, ◌^◌, ◌≤◌}
+use Prim.Native.Nat.{ℕ, ◌+◌, ◌*◌, ◌/◌, ◌%◌, ◌^◌}
 use native.Mathlib.Omega.{arith}
-use Rattle.poly.specs.Poly.{bit, register, remainder}
-use Rattle.poly.specs.Word.{number}
+use Rattle.poly.specs.Poly.{bit, register}
 use Rattle.poly.proofs.Remainder.{remainder_lt}
 use Rattle.poly.proofs.Sum.{mod2_lt}
 use Rattle.parity.specs.Model.Parity.{check_row}

@@ -1,14 +1,9 @@
 -- The invariant: the row for words of j bits, and the remainder of x^j.
-use mathlib.Core.Path.{◌≡◌, ap, ap₂, ◌∙◌}
-use Prim.Native.Nat.{ℕ, ◌+◌, ◌-◌, ◌*◌, ◌/◌, ◌%◌, ◌^◌, ◌≤◌}
-use native.Mathlib.Omega.{arith}
-use Rattle.poly.specs.Poly.{bit, register, remainder}
+use mathlib.Core.Path.{◌≡◌}
+use Prim.Native.Nat.{ℕ, ◌-◌, ◌^◌, ◌≤◌}
+use Rattle.poly.specs.Poly.{remainder}
 use Rattle.poly.specs.Word.{number}
-use Rattle.poly.proofs.Remainder.{remainder_lt}
-use Rattle.poly.proofs.Sum.{mod2_lt}
 use Rattle.parity.specs.Model.Parity.{check_row}
-use Rattle.parity.proofs.Divided.{row_lt}
-use Rattle.parity.proofs.Rows.{row_none, row_next, power_first, power_next}
 use Rattle.parity.proofs.check_row.Given as goal
 
 pub record Made (n m p i row power j : ℕ) : Type 0 where

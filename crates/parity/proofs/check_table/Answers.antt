@@ -1,9 +1,9 @@
-use mathlib.Core.Path.{◌≡◌, ap, ◌∙◌}
+use mathlib.Core.Path.{ap, ◌∙◌}
 use mathlib.Core.List.{List}
-use Prim.Native.Nat.{ℕ, ◌+◌, ◌-◌, ◌*◌, ◌≤◌}
+use Prim.Native.Nat.{ℕ, ◌+◌, ◌*◌}
 use native.Mathlib.Omega.{arith}
 use lib.ListN.{set}
-use Rattle.parity.proofs.Rows.{rows_to, rows_none, rows_next, rows_all}
+use Rattle.parity.proofs.Rows.{rows_none, rows_next, rows_all}
 use Rattle.parity.proofs.check_table.Goals as goal
 
 pub loop-i-init : goal.loop-i-init

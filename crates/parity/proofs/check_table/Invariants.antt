@@ -1,10 +1,7 @@
 -- The invariant: the table has its first i rows.
-use mathlib.Core.Path.{◌≡◌, ap, ◌∙◌}
-use mathlib.Core.List.{List}
-use Prim.Native.Nat.{ℕ, ◌+◌, ◌-◌, ◌*◌, ◌≤◌}
-use native.Mathlib.Omega.{arith}
-use lib.ListN.{set}
-use Rattle.parity.proofs.Rows.{rows_to, rows_none, rows_next, rows_all}
+use mathlib.Core.Path.{◌≡◌}
+use Prim.Native.Nat.{◌-◌, ◌≤◌}
+use Rattle.parity.proofs.Rows.{rows_to}
 use Rattle.parity.proofs.check_table.Given as goal
 
 abbrev pub invariant-loop-i : goal.invariant-loop-i

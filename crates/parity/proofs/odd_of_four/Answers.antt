@@ -1,5 +1,4 @@
 -- The four added up.
-use borrow.Author.Rules.{rules}
 use native.Mathlib.Omega.{arith}
 use Rattle.parity.specs.Model.Parity.{odd_of_four}
 use Rattle.parity.proofs.odd_of_four.Goals as goal

@@ -1,5 +1,4 @@
 -- The ones that word and row have in common, modulo 2.
-use borrow.Author.Rules.{rules}
 use mathlib.Core.Path.{refl}
 use native.Mathlib.Omega.{arith}
 use Rattle.poly.specs.Poly.{◌⊕◌}

@@ -1,8 +1,6 @@
-use mathlib.Core.Path.{◌≡◌, refl, sym, ◌∙◌}
-use Prim.Native.Nat.{◌-◌, ◌≤◌}
+use mathlib.Core.Path.{refl, sym, ◌∙◌}
 use native.Mathlib.Omega.{arith}
-use Rattle.parity.specs.Model.Parity.{even_from}
-use Rattle.parity.proofs.Checks.{row-odd, row-even, rows_end}
+use Rattle.parity.proofs.Checks.{row_odd, row-even, rows_end}
 use Rattle.parity.proofs.rest_even.Goals as goal
 
 pub loop-i-init : goal.loop-i-init
@@ -11,7 +9,7 @@ loop-i-init c = (omega arith, refl)
 pub returns-then-oddness_of-ne0 : goal.returns-then-oddness_of-ne0
 returns-then-oddness_of-ne0 c =
     let l = c.loop-i in
-    sym (row-odd _ _ _ _ l.i (omega arith) (λ e. c.if-oddness_of-ne0.true (c.oddness_of.ensures.0 ∙ e))) ∙ l.invariant.1
+    sym (row_odd _ _ _ _ l.i (omega arith) (λ e. c.if-oddness_of-ne0.true (c.oddness_of.ensures.0 ∙ e))) ∙ l.invariant.1
 
 pub loop-i-preserved : goal.loop-i-preserved
 loop-i-preserved c =

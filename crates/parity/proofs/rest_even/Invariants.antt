@@ -1,9 +1,7 @@
 -- The invariant: the rows from i on decide.
-use mathlib.Core.Path.{◌≡◌, refl, sym, ◌∙◌}
+use mathlib.Core.Path.{◌≡◌}
 use Prim.Native.Nat.{◌-◌, ◌≤◌}
-use native.Mathlib.Omega.{arith}
 use Rattle.parity.specs.Model.Parity.{even_from}
-use Rattle.parity.proofs.Checks.{row-odd, row-even, rows_end}
 use Rattle.parity.proofs.rest_even.Given as goal
 
 abbrev pub invariant-loop-i : goal.invariant-loop-i

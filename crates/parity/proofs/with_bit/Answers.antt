@@ -1,14 +1,13 @@
 -- The bit goes into the half that its place lies in.
-use borrow.Author.Rules.{rules}
 use native.Mathlib.Omega.{arith}
-use Rattle.parity.proofs.Rows.{low_fits, low-set, high_fits, high-set}
+use Rattle.parity.proofs.Rows.{low_fits, low_set, high_fits, high_set}
 use Rattle.parity.proofs.with_bit.Goals as goal
 
 pub overflow_add-result : goal.overflow_add-result
 overflow_add-result c = record { fits = low_fits c.args.w.high _ _ _ c.requires.below (omega arith) }
 
 pub returns-then-j-lt64 : goal.returns-then-j-lt64
-returns-then-j-lt64 c = let asked = c.requires in low-set _ _ _ _ asked.below (omega arith) asked.digit
+returns-then-j-lt64 c = let asked = c.requires in low_set _ _ _ _ asked.below (omega arith) asked.digit
 
 pub overflow_add-result-2 : goal.overflow_add-result-2
 overflow_add-result-2 c =
@@ -18,4 +17,4 @@ overflow_add-result-2 c =
 pub returns : goal.returns
 returns c =
     let asked = c.requires in
-    high-set _ _ _ _ asked.below (omega arith) asked.place asked.digit
+    high_set _ _ _ _ asked.below (omega arith) asked.place asked.digit

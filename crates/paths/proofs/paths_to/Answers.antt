@@ -9,9 +9,6 @@ use Rattle.paths.proofs.paths_to.Goals as goal
 pub loop-k-init : goal.loop-k-init
 loop-k-init c = record { within = zero-le; summed = sum_none _; small = zero-le }
 
-pub offset_bounds-counts-k : goal.offset_bounds-counts-k
-offset_bounds-counts-k c = omega (arith, c.well-formed.0.1)
-
 pub returns-then-limit-total : goal.returns-then-limit-total
 returns-then-limit-total c =
     let l = c.loop-k in

@@ -7,7 +7,6 @@ use Rattle.row.specs.declared.Answered.{Answered}
 use Rattle.row.specs.Answered.{answered_as}
 use Rattle.text.specs.Text.{answer_text}
 use Rattle.text.specs.Model.Steps.{Laid}
-use borrow.Author.Rules.{rules}
 use Rattle.print.proofs.print_answer.Goals as goal
 
 told : (o : Order) (a b : Answered) (plain undetected before after : List ℕ) (end : ℕ) → a ≡ b
@@ -19,8 +18,8 @@ lay_refusal-requires c = c.requires.bytes
 
 pub returns-in-Row : goal.returns-in-Row
 unfolding answer_text
-returns-in-Row c = told _ _ _ _ _ _ _ _ c.a-1.given.1 c.lay_row.ensures
+returns-in-Row c = told _ _ _ _ _ _ _ _ c.in-Row.is c.lay_row.ensures
 
 pub returns-in-Refused : goal.returns-in-Refused
 unfolding answer_text
-returns-in-Refused c = told _ _ _ _ _ _ _ _ c.a-in-Refused-1.given.1 c.lay_refusal.ensures
+returns-in-Refused c = told _ _ _ _ _ _ _ _ c.in-Refused.is c.lay_refusal.ensures

@@ -3,13 +3,12 @@ use native.Mathlib.Nat.{le_refl}
 use native.Mathlib.Omega.{arith}
 use Rattle.order.specs.Questions.{work_size}
 use Rattle.print.specs.Printed.{lent}
-use Rattle.print.proofs.Read.{none-asked, row_room}
+use Rattle.print.proofs.Read.{none_asked, row_room}
 use Rattle.print.proofs.Shown.{search_shown}
-use borrow.Author.Rules.{rules}
 use Rattle.print.proofs.print_order.Goals as goal
 
 pub search_paths-a-requires : goal.search_paths-a-requires
-search_paths-a-requires c = let s = c in none-asked s.args.o s.requires.0 63 63 (le_refl 63) (le_refl 63)
+search_paths-a-requires c = let s = c in none_asked s.args.o s.requires.0 63 63 (le_refl 63) (le_refl 63)
 
 pub print_answer-requires : goal.print_answer-requires
 print_answer-requires c =

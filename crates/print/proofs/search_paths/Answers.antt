@@ -1,6 +1,5 @@
 -- The tables are zeros.
 use Rattle.order.specs.Questions.{work_size}
-use borrow.Author.Rules.{rules}
 use Rattle.print.proofs.search_paths.Goals as goal
 
 pub search_events-requires : goal.search_events-requires

@@ -2,7 +2,7 @@
 use native.Mathlib.Omega.{arith}
 use borrow.Author.Rules.{rules}
 use Rattle.poly.proofs.Shifts.{up_high_fits}
-use Rattle.rotations.proofs.Joining.{joined-first, low_fits, joined-low, above-fits, joined-above}
+use Rattle.rotations.proofs.Joining.{joined-first, low_fits, joined_low, above_fits, joined_above}
 use Rattle.rotations.proofs.join_input.Goals as goal
 
 pub returns-then-place-eq0 : goal.returns-then-place-eq0
@@ -19,13 +19,13 @@ overflow_add-result-then-place-lt64 c = record { fits = up_high_fits _ _ _ (omeg
 pub returns-then-place-lt64 : goal.returns-then-place-lt64
 returns-then-place-lt64 c =
     let p = c.requires in
-    joined-low _ _ _ _ _ (omega arith) p.below p.fits
+    joined_low _ _ _ _ _ (omega arith) p.below p.fits
 
 pub overflow_add-result-2 : goal.overflow_add-result-2
 overflow_add-result-2 c =
     let start = c in
     let p = start.requires in
-    record { fits = above-fits _ _ _ _ _ (omega arith) p.fits (omega arith) p.below }
+    record { fits = above_fits _ _ _ _ _ (omega arith) p.fits (omega arith) p.below }
 
 pub returns : goal.returns
-returns c = joined-above _ _ _ _ _ (omega arith) c.requires.fits
+returns c = joined_above _ _ _ _ _ (omega arith) c.requires.fits

@@ -1,12 +1,8 @@
 -- The invariant: what is left decides.
-use Prim.Native.Nat.{◌-◌, ◌≤◌, zero-le}
-use native.Mathlib.Omega.{arith}
-use mathlib.Core.Path.{◌≡◌, refl, sym, ◌∙◌}
-use borrow.Author.Rules.{rules}
-use borrow.Author.Tests.{not-true, not-false}
+use Prim.Native.Nat.{◌-◌, ◌≤◌}
+use mathlib.Core.Path.{◌≡◌}
 use lib.ListN.{length, drop}
 use Rattle.lists.specs.Lists.{all}
-use Rattle.lists.proofs.Scan.{all_end, all-fails, all-goes-on}
 use Rattle.order.specs.Questions.{from_to, longest_word}
 use Rattle.set.proofs.all_long_enough.Given as goal
 

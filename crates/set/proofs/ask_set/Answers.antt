@@ -1,10 +1,9 @@
 -- Refused by the kind of link and code, by the list, by a length, or by what the search for the shortest asks; or by none.
-use Prim.Native.Nat.{ℕ, ◌-◌, ◌≤◌}
+use Prim.Native.Nat.{ℕ, ◌≤◌}
 use native.Mathlib.Omega.{arith}
 use mathlib.Core.Path.{◌≡◌, sym, ap, ◌∙◌}
 use mathlib.Core.Bool.{true, ◌&&◌}
 use mathlib.Core.List.{List}
-use borrow.Author.Tests.{not-true, not-false}
 use lib.ListN.{length}
 use Rattle.lists.proofs.Tests.{both}
 use Rattle.order.specs.Questions.{first_no, from_to}
@@ -17,22 +16,21 @@ use Rattle.jobs.specs.declared.Plan.{Plan}
 use Rattle.calls.specs.Calls.{Call, questions}
 use Rattle.calls.specs.Model.Plans.{call_in}
 use Rattle.search.specs.Calls.{search_questions}
-use Rattle.search.proofs.Plans.{own_plan, own-call}
+use Rattle.search.proofs.Plans.{own_plan, own_call}
 use Rattle.set.specs.Calls.{falling, shortest}
-use Rattle.set.proofs.Asked.{by_kind, by-list, by_length, by-search}
-use borrow.Author.Rules.{rules}
+use Rattle.set.proofs.Asked.{by_kind, by_list, by_length, by_search}
 use Rattle.set.proofs.ask_set.Goals as goal
 
 some-lengths : (Ns : List ℕ) → (from_to 1 8 (length Ns) && falling Ns) ≡ true → 1 ≤ length Ns
 some-lengths Ns e = (range 1 8 (length Ns) (both (from_to 1 8 (length Ns)) (falling Ns) e).0).0
 
 -- what is asked of the plan for the shortest is what the search for it asks
-as-searched : (order : OrderRecord) (Ns : List ℕ) (plain undetected work : ℕ) (short : OrderRecord) → order_in short ≡ with_length (shortest Ns) (order_in order)
+as_searched : (order : OrderRecord) (Ns : List ℕ) (plain undetected work : ℕ) (short : OrderRecord) → order_in short ≡ with_length (shortest Ns) (order_in order)
     → (plan : Plan) → plan ≡ own_plan everything J.Choose short → (r : ℕ) → r ≡ first_no (questions (call_in plan) plain undetected work)
     → r ≡ first_no (search_questions (with_length (shortest Ns) (order_in order)) plain undetected work)
 unfolding search_questions
-as-searched order Ns plain undetected work short is plan planned r e =
-    e ∙ ap (λ (c : Call). first_no (questions c plain undetected work)) (own-call everything J.Choose short plan planned)
+as_searched order Ns plain undetected work short is plan planned r e =
+    e ∙ ap (λ (c : Call). first_no (questions c plain undetected work)) (own_call everything J.Choose short plan planned)
     ∙ ap (λ (o : Order). first_no (search_questions o plain undetected work)) is
 
 pub returns-then-shape-ne0 : goal.returns-then-shape-ne0
@@ -41,15 +39,13 @@ returns-then-shape-ne0 c = let a = c.args in by_kind a.order a.lengths.now a.pla
 pub returns-then-not-is_length_list : goal.returns-then-not-is_length_list
 returns-then-not-is_length_list c =
     let a = c.args in
-    by-list a.order a.lengths.now a.plain a.undetected a.size _ c.ask_shape-shape.ensures c.if-shape-ne0.false (sym c.is_length_list.ensures ∙ c.if-not-is_length_list.true)
+    by_list a.order a.lengths.now a.plain a.undetected a.size _ c.ask_shape-shape.ensures c.if-shape-ne0.false (sym c.is_length_list.ensures ∙ c.if-not-is_length_list.true)
 
 pub returns-then-not-all_long_enough : goal.returns-then-not-all_long_enough
 unfolding order_in
 returns-then-not-all_long_enough c =
-    let second = c in
-    let first = second in
-    let a = first.args in
-    by_length a.order a.lengths.now a.plain a.undetected a.size _ first.ask_shape-shape.ensures first.if-shape-ne0.false (sym second.is_length_list.ensures ∙ second.if-not-is_length_list.false)
+    let a = c.args in
+    by_length a.order a.lengths.now a.plain a.undetected a.size _ c.ask_shape-shape.ensures c.if-shape-ne0.false (sym c.is_length_list.ensures ∙ c.if-not-is_length_list.false)
     (sym c.all_long_enough.ensures ∙ c.if-not-all_long_enough.true)
 
 pub overflow_sub-lengths : goal.overflow_sub-lengths
@@ -61,10 +57,7 @@ bounds-lengths-lengths c = omega (arith, some-lengths c.args.lengths.now (sym c.
 pub returns : goal.returns
 unfolding shortest order_in
 returns c =
-    let third = c in
-    let second = third in
-    let first = second in
-    let a = first.args in
-    by-search a.order a.lengths.now a.plain a.undetected a.size _ first.ask_shape-shape.ensures first.if-shape-ne0.false (sym second.is_length_list.ensures ∙ second.if-not-is_length_list.false)
-    (sym third.all_long_enough.ensures ∙ third.if-not-all_long_enough.false) _
-    (as-searched a.order a.lengths.now a.plain a.undetected a.size _ c.with_length-shortest.ensures _ c.choosing.ensures _ c.ask.ensures)
+    let a = c.args in
+    by_search a.order a.lengths.now a.plain a.undetected a.size _ c.ask_shape-shape.ensures c.if-shape-ne0.false (sym c.is_length_list.ensures ∙ c.if-not-is_length_list.false)
+    (sym c.all_long_enough.ensures ∙ c.if-not-all_long_enough.false) _
+    (as_searched a.order a.lengths.now a.plain a.undetected a.size _ c.with_length-shortest.ensures _ c.choosing.ensures _ c.ask.ensures)

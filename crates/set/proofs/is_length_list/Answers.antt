@@ -1,14 +1,11 @@
-use Prim.Native.Nat.{◌-◌, ◌≤◌}
+use Prim.Native.Nat.{◌≤◌}
 use native.Mathlib.Omega.{arith}
-use mathlib.Core.Path.{◌≡◌, refl, sym, ap, ◌∙◌}
-use mathlib.Core.Bool.{Bool, true, false, ◌&&◌}
-use borrow.Author.Rules.{rules}
-use borrow.Author.Tests.{not-true, not-false}
-use lib.ListN.{length, drop}
-use Rattle.order.specs.Questions.{from_to}
+use mathlib.Core.Path.{sym, ap, ◌∙◌}
+use mathlib.Core.Bool.{Bool, ◌&&◌}
+use lib.ListN.{length}
 use Rattle.order.proofs.Answers.{range}
-use Rattle.set.specs.Calls.{all_below, falling}
-use Rattle.set.proofs.Lists.{falling_begin, falls-on, rises, falls-end}
+use Rattle.set.specs.Calls.{falling}
+use Rattle.set.proofs.Lists.{falling_begin, falls_on, rises, falls_end}
 use Rattle.set.proofs.is_length_list.Goals as goal
 
 pub returns-then-not-from_to : goal.returns-then-not-from_to
@@ -30,7 +27,7 @@ returns-then-before-next c = let l = c.loop-i in sym (l.invariant.2 ∙ rises c.
 pub loop-i-preserved : goal.loop-i-preserved
 loop-i-preserved c =
     let l = c.loop-i in
-    (omega arith, omega arith, l.invariant.2 ∙ falls-on c.args.lengths.now l.before l.i (omega arith) (omega arith))
+    (omega arith, omega arith, l.invariant.2 ∙ falls_on c.args.lengths.now l.before l.i (omega arith) (omega arith))
 
 pub returns : goal.returns
-returns c = let l = c.loop-i in sym (l.invariant.2 ∙ falls-end c.args.lengths.now l.before l.i (omega arith))
+returns c = let l = c.loop-i in sym (l.invariant.2 ∙ falls_end c.args.lengths.now l.before l.i (omega arith))

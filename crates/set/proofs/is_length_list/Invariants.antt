@@ -1,15 +1,10 @@
 -- The number of lengths, then each against the one before: what is left decides.
 use Prim.Native.Nat.{◌-◌, ◌≤◌}
-use native.Mathlib.Omega.{arith}
-use mathlib.Core.Path.{◌≡◌, refl, sym, ap, ◌∙◌}
-use mathlib.Core.Bool.{Bool, true, false, ◌&&◌}
-use borrow.Author.Rules.{rules}
-use borrow.Author.Tests.{not-true, not-false}
+use mathlib.Core.Path.{◌≡◌}
+use mathlib.Core.Bool.{◌&&◌}
 use lib.ListN.{length, drop}
 use Rattle.order.specs.Questions.{from_to}
-use Rattle.order.proofs.Answers.{range}
 use Rattle.set.specs.Calls.{all_below, falling}
-use Rattle.set.proofs.Lists.{falling_begin, falls-on, rises, falls-end}
 use Rattle.set.proofs.is_length_list.Given as goal
 
 abbrev pub invariant-loop-i : goal.invariant-loop-i

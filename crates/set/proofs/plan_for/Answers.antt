@@ -1,10 +1,8 @@
 -- One length is planned as the search; more are planned with those after the first.
 use Prim.Native.Nat.{ℕ}
-use native.Mathlib.Omega.{arith}
-use mathlib.Core.Path.{◌≡◌, refl, sym, ap, ◌∙◌}
+use mathlib.Core.Path.{◌≡◌, refl, ap, ◌∙◌}
 use mathlib.Core.Logic.{inl, inr}
 use mathlib.Core.List.{List}
-use borrow.Author.Tests.{eqb-true}
 use lib.ListN.{length, get_or}
 use Rattle.order.specs.Order.{Order, with_length, everything}
 use Rattle.order.specs.Answers.{order_in}
@@ -16,7 +14,6 @@ use Rattle.jobs.specs.declared.Plan.{Plan}
 use Rattle.search.proofs.Plans.{own_plan}
 use Rattle.set.specs.Model.Plans.{PlannedFor}
 use Rattle.set.proofs.Planned.{first_is}
-use borrow.Author.Rules.{rules}
 use Rattle.set.proofs.plan_for.Goals as goal
 
 is-longest : (order long : OrderRecord) (Ns : List ℕ) → order_in long ≡ with_length (get_or Ns 0 0) (order_in order) → (order_in long ≡ longest (order_in order) Ns) × (long.bits ≡ first_of Ns)

@@ -1,7 +1,5 @@
 -- In a cleared buffer.
-use native.Mathlib.Omega.{arith}
 use Rattle.text.proofs.Calls.{laid_as}
-use borrow.Author.Rules.{rules}
 use Rattle.text.proofs.lay_refusal.Goals as goal
 
 pub returns : goal.returns

@@ -1,7 +1,6 @@
 -- In a cleared buffer.
 use native.Mathlib.Omega.{arith}
 use Rattle.text.proofs.Calls.{laid_as}
-use borrow.Author.Rules.{rules}
 use Rattle.text.proofs.lay_row.Goals as goal
 
 pub put_row-requires : goal.put_row-requires

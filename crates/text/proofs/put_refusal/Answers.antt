@@ -3,7 +3,6 @@ use native.Mathlib.Omega.{arith}
 use Rattle.lines.proofs.Puts.{put_most}
 use Rattle.text.specs.Text.{refusal_text}
 use Rattle.lines.specs.Lines.{wNO}
-use borrow.Author.Rules.{rules}
 use Rattle.text.proofs.put_refusal.Goals as goal
 
 pub returns : goal.returns

@@ -2,7 +2,6 @@
 use native.Mathlib.Omega.{arith}
 use Rattle.text.specs.Calls.{refusal_call}
 use Rattle.text.proofs.Calls.{written_as_lem, refusal_no_room, refusal_room}
-use borrow.Author.Rules.{rules}
 use Rattle.text.proofs.write_refusal.Goals as goal
 
 pub returns-then-buffer-lt4096 : goal.returns-then-buffer-lt4096

@@ -9,7 +9,6 @@ use Rattle.row.specs.declared.Answered.TheVariants as A
 use Rattle.row.specs.Answered.{answered_as}
 use Rattle.text.specs.Text.{answer_text}
 use Rattle.text.specs.Calls.{answer_questions, row_call, refusal_call}
-use borrow.Author.Rules.{rules}
 use Rattle.text.proofs.write_row.Goals as goal
 
 -- what is written of a case is written of the answer
@@ -24,10 +23,8 @@ told-refused o plain undetected buffer a k e h = told o plain undetected buffer 
 
 pub returns-in-Row : goal.returns-in-Row
 returns-in-Row c =
-    let call = c in
-    told _ _ _ _ _ _ call.a-1.given.1 call.write_numbers.ensures
+    told _ _ _ _ _ _ c.in-Row.is c.write_numbers.ensures
 
 pub returns-in-Refused : goal.returns-in-Refused
 returns-in-Refused c =
-    let call = c in
-    told-refused _ _ _ _ _ _ call.a-in-Refused-1.given.1 call.write_refusal.ensures
+    told-refused _ _ _ _ _ _ c.in-Refused.is c.write_refusal.ensures

@@ -1,13 +1,9 @@
 -- The invariant: the words of entry j begin at the place reached, and the counts of the entries before j stand in the list.
-use borrow.Author.Rules.{rules}
-use mathlib.Core.Path.{◌≡◌, ap, ◌∙◌}
+use mathlib.Core.Path.{◌≡◌}
 use mathlib.Core.List.{List}
-use Prim.Native.Nat.{ℕ, ◌+◌, ◌-◌, ◌≤◌, ◌<◌}
-use native.Mathlib.Omega.{arith}
-use lib.ListN.{length, get_or, set}
+use Prim.Native.Nat.{ℕ, ◌-◌, ◌≤◌}
 use Rattle.paths.specs.Part.{paths_to}
 use Rattle.undetected.specs.Model.Steps.{counted_from}
-use Rattle.undetected.proofs.Counted.{before-next, before-end, counted-weight, counted_none, length-counted, counted_next}
 use Rattle.undetected.proofs.count_from.Given as goal
 
 pub record Counted (table plain undetected₀ : List ℕ) (m p first entries : ℕ) (undetected : List ℕ) (at j : ℕ) : Type 0 where

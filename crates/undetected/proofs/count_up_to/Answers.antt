@@ -1,27 +1,19 @@
-use borrow.Author.Rules.{rules}
-use mathlib.Core.Path.{◌≡◌, sym, ◌∙◌}
-use mathlib.Core.Logic.{⊎_elim}
-use mathlib.Core.List.{List}
-use Prim.Native.Nat.{ℕ, ◌-◌, ◌≤◌}
+use mathlib.Core.Path.{sym, ◌∙◌}
 use native.Mathlib.Omega.{arith}
-use Rattle.undetected.specs.Model.Steps.{even_between}
-use Rattle.undetected.proofs.Counting.{even-none, even-passes, even-fails, even-le, even-past, even-all}
+use Rattle.undetected.proofs.Counting.{even_none, even-passes, even_fails, even_le, even_past, even-all}
 use Rattle.undetected.proofs.count_up_to.Goals as goal
+use Rattle.undetected.proofs.count_up_to.Goals.{then-all_even+else-limit-found, else-all_even}
 
 pub loop-k-init : goal.loop-k-init
-loop-k-init c = record { begun = omega arith; within = omega arith; so_far = even-none _ _ _ _; few = omega arith }
+loop-k-init c = record { begun = omega arith; within = omega arith; so_far = even_none _ _ _ _; few = omega arith }
 
 pub overflow_add-found : goal.overflow_add-found
-overflow_add-found c =
-    let l = c in
-    let a = l.args in
-    omega (arith, even-le a.rows.now a.m a.table.now a.from l.loop-k.k)
+overflow_add-found c = omega (arith, even_le c.args.rows.now c.args.m c.args.table.now c.args.from c.loop-k.k)
 
 pub returns-then-limit-found : goal.returns-then-limit-found
 returns-then-limit-found c =
-    let l = c in
-    let i = l.loop-k.invariant in
-    even-past _ _ _ _ l.loop-k.k _ _ l.args.limit i.begun (omega arith) i.so_far i.few
+    let i = c.loop-k.invariant in
+    even_past _ _ _ _ c.loop-k.k _ _ c.args.limit i.begun (omega arith) i.so_far i.few
     (sym c.if-all_even.true ∙ c.all_even.ensures) (omega arith)
 
 pub loop-k-preserved : goal.loop-k-preserved
@@ -32,12 +24,12 @@ loop-k-preserved c =
       begun = omega arith;
       within = omega arith;
       so_far =
-          ⊎_elim (λ t. t.2 ∙ even-passes _ _ _ _ _ _ i.begun i.so_far (sym t.0.taken ∙ tested))
-          (λ e. e.1 ∙ even-fails _ _ _ _ _ _ i.begun i.so_far (sym e.0.left ∙ tested)) c.if-all_even.branch;
-      few = ⊎_elim (λ t. omega arith) (λ e. omega arith) c.if-all_even.branch;
+          elim c.if-all_even.branch [
+            | then-all_even+else-limit-found w ↦ w.found-is ∙ even-passes _ _ _ _ _ _ i.begun i.so_far (sym w.if-all_even.true ∙ tested)
+            | else-all_even w ↦ w.found-is ∙ even_fails _ _ _ _ _ _ i.begun i.so_far (sym w.if-all_even.false ∙ tested)
+          ];
+      few = elim c.if-all_even.branch [ then-all_even+else-limit-found w ↦ omega arith | else-all_even w ↦ omega arith ];
     }
 
 pub returns : goal.returns
-returns c =
-    let l = c in
-    even-all _ _ _ _ l.loop-k.k l.args.to _ _ (omega arith) l.loop-k.invariant.so_far l.loop-k.invariant.few
+returns c = even-all _ _ _ _ c.loop-k.k c.args.to _ _ (omega arith) c.loop-k.invariant.so_far c.loop-k.invariant.few

@@ -1,12 +1,8 @@
 -- The invariant: how many of the places before k pass, at most the limit.
-use borrow.Author.Rules.{rules}
-use mathlib.Core.Path.{◌≡◌, sym, ◌∙◌}
-use mathlib.Core.Logic.{⊎_elim}
+use mathlib.Core.Path.{◌≡◌}
 use mathlib.Core.List.{List}
 use Prim.Native.Nat.{ℕ, ◌-◌, ◌≤◌}
-use native.Mathlib.Omega.{arith}
 use Rattle.undetected.specs.Model.Steps.{even_between}
-use Rattle.undetected.proofs.Counting.{even-none, even-passes, even-fails, even-le, even-past, even-all}
 use Rattle.undetected.proofs.count_up_to.Given as goal
 
 pub record Found (table : List ℕ) (from to : ℕ) (rows : List ℕ) (m limit found k : ℕ) : Type 0 where

@@ -1,11 +1,6 @@
 -- The invariant: the words of entry i begin at the place reached, and p divides none before it.
-use borrow.Author.Rules.{rules}
-use native.Mathlib.Omega.{arith}
-use Prim.Native.Nat.{◌+◌, ◌-◌, ◌≤◌, ◌<◌}
-use lib.ListN.{get_or}
-use Rattle.paths.specs.Part.{paths_to}
-use Rattle.undetected.proofs.Counted.{before-end}
-use Rattle.undetected.proofs.Looking.{Looking, looking-begin, looking-on, looking-found, looking-end}
+use Prim.Native.Nat.{◌-◌}
+use Rattle.undetected.proofs.Looking.{Looking}
 use Rattle.undetected.proofs.first_weight.Given as goal
 
 abbrev pub invariant-loop-i : goal.invariant-loop-i

@@ -14,9 +14,9 @@ module _ (ends starts n : ℕ) where
     pub size : length work ≡ length work₀
     pub left : carried (ends + j) (starts + j) (n - j) at work ≡ carried ends starts n from work₀
 
-  pub carry-begin : (from : ℕ) (work : List ℕ)
+  pub carry_begin : (from : ℕ) (work : List ℕ)
       → carried (ends + 0) (starts + 0) (n - 0) from work ≡ carried ends starts n from work
-  carry-begin from work =
+  carry_begin from work =
       ap₂ (λ (x y : ℕ). carried x y (n - 0) from work) (none ends) (none starts)
       ∙ ap (λ (x : ℕ). carried ends starts x from work) (all_left n)
     where
@@ -26,11 +26,11 @@ module _ (ends starts n : ℕ) where
       all_left : (x : ℕ) → x - 0 ≡ x
       all_left x = omega arith
 
-  pub carry-again : (j at next : ℕ) (work goal : List ℕ) → j < n → next ≡ max at (get_or work (ends + j) 0)
+  pub carry_again : (j at next : ℕ) (work goal : List ℕ) → j < n → next ≡ max at (get_or work (ends + j) 0)
       → carried (ends + j) (starts + j) (n - j) at work ≡ goal → carried (ends + (j + 1)) (starts + (j + 1))
       (n - (j + 1)) next (set work (starts + j) at) ≡ goal
   unfolding carried
-  carry-again j at next work goal h e inv =
+  carry_again j at next work goal h e inv =
       ap (λ (x : ℕ). carried (ends + (j + 1)) (starts + (j + 1)) (n - (j + 1)) x (set work (starts + j) at)) e
       ∙ ap₂ (λ (x y : ℕ). carried x y (n - (j + 1)) (max at (get_or work (ends + j) 0)) (set work (starts + j) at)) (one_more ends)
       (one_more starts)
@@ -42,10 +42,10 @@ module _ (ends starts n : ℕ) where
       more : suc (n - (j + 1)) ≡ n - j
       more = omega arith
 
-  pub carry-end : (j at : ℕ) (work goal : List ℕ) → j ≡ n
+  pub carry_end : (j at : ℕ) (work goal : List ℕ) → j ≡ n
       → carried (ends + j) (starts + j) (n - j) at work ≡ goal → set work (starts + n) at ≡ goal
   unfolding carried
-  carry-end j at work goal h inv =
+  carry_end j at work goal h inv =
       ap (λ (x : ℕ). set work (starts + x) at) (sym h) ∙ ap (λ (x : ℕ). carried (ends + j) (starts + j) x at work) none ∙ inv
     where
       none : 0 ≡ n - j

@@ -16,9 +16,9 @@ use Rattle.bounds.specs.declared.Chain.{Chain}
 use Rattle.code.specs.Model.Steps.{most_steps}
 use Rattle.bounds.specs.Model.Tables.{start_at, end_at, bits_at, beginning, following, Small, ToFollow}
 use Rattle.bounds.proofs.Placed.{lt_or_ge}
-use Rattle.bounds.proofs.Looked.{beginning-bounds, beginning-skips, following-bounds, following-skips}
+use Rattle.bounds.proofs.Looked.{beginning_bounds, beginning_skips, following_bounds, following_skips}
 use Rattle.chains.specs.Model.Chaining.{found, found_by, Joins, Near, ToChain, ToJoin}
-use Rattle.chains.proofs.Found.{finds, finds-none, rest_from, found-is-rest, rest-turn, rest_over, rest-skips}
+use Rattle.chains.proofs.Found.{finds, finds_none, rest_from, found_is_rest, rest_turn, rest_over, rest_skips}
 
 -- past the room nothing more is appended
 puts_full : (us : List ℕ) (s : List ℕ × ℕ) → s.1 ≡ path_room (length s.0) + 1 → puts us s ≡ s
@@ -75,23 +75,23 @@ module _ {table : List Event} {work paths : List ℕ} {at : ℕ} {begun : Chain}
         | inl full ↦
             let over : p ≡ path_room (length l) + 1 = past (length l) (length paths) e h full in
             puts_full (rest k) (l, p) over ∙ sym (puts_full (rest k') (l, p) over)
-        | inr open-room ↦
+        | inr open_room ↦
             let d : k + (k' - k) ≡ k' = omega arith in
             ap (λ (us : List ℕ). puts us (l, p))
-            (rest-skips joins begun (k' - k) k (rw d last) (λ x g g'. none open-room x g (rw d at g')) ∙ ap rest d)
+            (rest_skips joins begun (k' - k) k (rw d last) (λ x g g'. none open_room x g (rw d at g')) ∙ ap rest d)
       ]
     where
       past : (m n : ℕ) → m ≡ n → p ≤ m / 2 + 1 → n / 2 < p → p ≡ m / 2 + 1
       past m n same a b = omega arith
 
-  pub asks-begin : Small work × (begun.steps ≤ most_steps)
-  asks-begin = (joins.ready.small, short)
+  pub asks_begin : Small work × (begun.steps ≤ most_steps)
+  asks_begin = (joins.ready.small, short)
 
-  pub stands-first : {k : ℕ} → k ≡ beginning work at room begun → Stands k at paths
-  stands-first is = rw is stands
+  pub stands_first : {k : ℕ} → k ≡ beginning work at room begun → Stands k at paths
+  stands_first is = rw is stands
     where
       b : (from ≤ beginning work at room begun) × (beginning work at room begun ≤ to)
-      b = beginning-bounds table work from to joins.ready at room begun short
+      b = beginning_bounds table work from to joins.ready at room begun short
 
       stands : Stands (beginning work at room begun) at paths
       stands = record {
@@ -99,20 +99,20 @@ module _ {table : List Event} {work paths : List ℕ} {at : ℕ} {begun : Chain}
         near = ask.near;
         above = b.0;
         below = b.1;
-        done = sym (ap (λ (us : List ℕ). puts us (paths, at)) (found-is-rest joins begun ask.unfinished)
+        done = sym (ap (λ (us : List ℕ). puts us (paths, at)) (found_is_rest joins begun ask.unfinished)
             ∙ skipped from (beginning work at room begun) at paths refl ask.near b.0 b.1
-            (λ open-room x g g'. let last = b.1 in
-            finds-none joins begun ask.unfinished x g (omega arith)
-            (beginning-skips table work from to joins.ready at room begun short joins.segment open-room x g g')));
+            (λ open_room x g g'. let last = b.1 in
+            finds_none joins begun ask.unfinished x g (omega arith)
+            (beginning_skips table work from to joins.ready at room begun short joins.segment open_room x g g')));
       }
 
   module _ (x : Stage) where
-    pub p-fits : length paths < 2 ^ 64 → x.p < 2 ^ 64
+    pub p_fits : length paths < 2 ^ 64 → x.p < 2 ^ 64
     unfolding path_room
-    p-fits h = let e = x.stands.size in let n = x.stands.near in omega (arith, h, e, n)
+    p_fits h = let e = x.stands.size in let n = x.stands.near in omega (arith, h, e, n)
 
-    pub k-fits : to < 2 ^ 64 → x.k < 2 ^ 64
-    k-fits h = let b = x.stands.below in omega (arith, b)
+    pub k_fits : to < 2 ^ 64 → x.k < 2 ^ 64
+    k_fits h = let b = x.stands.below in omega (arith, b)
 
     module _ (inside : x.k < to) where
       abbrev e : Event
@@ -121,8 +121,8 @@ module _ {table : List Event} {work paths : List ℕ} {at : ℕ} {begun : Chain}
       pub in_table : x.k < length table
       in_table = let i = joins.inside in omega (arith, i)
 
-      pub asks-join : {f : Event} → f ≡ e → ToJoin table work x.l x.p begun f
-      asks-join is = record {
+      pub asks_join : {f : Event} → f ≡ e → ToJoin table work x.l x.p begun f
+      asks_join is = record {
         joins = joins;
         unfinished = ask.unfinished;
         joinable = rw is (joins.joinable x.k x.stands.above inside);
@@ -132,8 +132,8 @@ module _ {table : List Event} {work paths : List ℕ} {at : ℕ} {begun : Chain}
       len_short : e.length ≤ most_steps
       len_short = (joins.segment.lengths x.k x.stands.above inside).1
 
-      pub asks-follow : {f : Event} → f ≡ e → to < 2 ^ 64 → ToFollow work begun f.length x.k
-      asks-follow is h = record {
+      pub asks_follow : {f : Event} → f ≡ e → to < 2 ^ 64 → ToFollow work begun f.length x.k
+      asks_follow is h = record {
         small = joins.ready.small;
         steps_small = short;
         length_small = rw is len_short;
@@ -143,13 +143,13 @@ module _ {table : List Event} {work paths : List ℕ} {at : ℕ} {begun : Chain}
       -- after a turn: the table, the position and the next place, as the code has them
       module _ {zs : List ℕ} {r k' : ℕ} (put : (zs, r) ≡ puts (found_by table work begun e) (x.l, x.p))
           (is : k' ≡ following work r room begun e.length x.k) where
-        turn-bounds : (x.k < k') × (k' ≤ to)
-        turn-bounds =
-            rw is (following-bounds table work from to joins.ready r room begun short x.k e.length
+        turn_bounds : (x.k < k') × (k' ≤ to)
+        turn_bounds =
+            rw is (following_bounds table work from to joins.ready r room begun short x.k e.length
             x.stands.above inside refl len_short)
 
-        turn-size : length zs ≡ length paths
-        turn-size =
+        turn_size : length zs ≡ length paths
+        turn_size =
             ap (λ (s : List ℕ × ℕ). length s.0) put ∙ length-puts (finds joins begun x.k) (x.l, x.p) ∙ x.stands.size
 
         turn_near : Near zs r
@@ -159,30 +159,30 @@ module _ {table : List Event} {work paths : List ℕ} {at : ℕ} {begun : Chain}
 
         turned : puts (rest x.k) (x.l, x.p) ≡ puts (rest (x.k + 1)) (zs, r)
         turned =
-            ap (λ (us : List ℕ). puts us (x.l, x.p)) (rest-turn joins begun x.k inside)
+            ap (λ (us : List ℕ). puts us (x.l, x.p)) (rest_turn joins begun x.k inside)
             ∙ puts-append (finds joins begun x.k) (rest (x.k + 1)) (x.l, x.p)
             ∙ sym (ap (puts (rest (x.k + 1))) put)
 
-        pub stands-next : Stands k' r zs
-        stands-next =
-            let b = turn-bounds in
+        pub stands_next : Stands k' r zs
+        stands_next =
+            let b = turn_bounds in
             let above = x.stands.above in
             record {
-              size = turn-size;
+              size = turn_size;
               near = turn_near;
               above = omega (arith, b.0);
               below = b.1;
               done =
-                  sym (skipped (x.k + 1) k' r zs turn-size turn_near (omega (arith, b.0)) b.1
-                  (λ open-room y g g'. let last = b.1 in
-                  finds-none joins begun ask.unfinished y (omega arith) (omega arith)
-                  (following-skips table work from to joins.ready r room begun short joins.segment open-room
+                  sym (skipped (x.k + 1) k' r zs turn_size turn_near (omega (arith, b.0)) b.1
+                  (λ open_room y g g'. let last = b.1 in
+                  finds_none joins begun ask.unfinished y (omega arith) (omega arith)
+                  (following_skips table work from to joins.ready r room begun short joins.segment open_room
                   x.k e.length y above inside refl (omega arith) (rw is at g'))))
                   ∙ sym turned ∙ x.stands.done;
             }
 
         pub nearer : to - k' < to - x.k
-        nearer = let b = turn-bounds in omega (arith, b.0, b.1)
+        nearer = let b = turn_bounds in omega (arith, b.0, b.1)
 
     pub all_found : to ≤ x.k → (x.l, x.p) ≡ puts (found table work begun) (paths, at)
     all_found over =

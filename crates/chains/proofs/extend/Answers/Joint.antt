@@ -22,8 +22,8 @@ module _ {work : List ℕ} {begun : Chain} {e : Event} (ask : ToExtend work begu
   place = N - begun.steps
 
   -- the input, moved up, fits a word: no further up than where the event ends the chain
-  pub input-up : (x : ℕ) → x ≡ word_of e → x * 2 ^ place < 2 ^ 128
-  input-up x q =
+  pub input_up : (x : ℕ) → x ≡ word_of e → x * 2 ^ place < 2 ^ 128
+  input_up x q =
       let short = ask.short in
       let up : 2 ^ place ≤ 2 ^ (N - e.length) = pow_mono {i = place} {j = N - e.length} (omega arith) in
       rw q (lt_of_le_of_lt (mul-le-mul_left (word_of e) up) ask.joinable.whole)

@@ -13,7 +13,7 @@ use Rattle.events.specs.declared.Event.{Event}
 use Rattle.events.specs.Events.{no_event}
 use Rattle.bounds.specs.Model.Tables.{Segment}
 use Rattle.chains.specs.Model.Chaining.{fitting_end}
-use Rattle.chains.proofs.Fitting.{fitting-is}
+use Rattle.chains.proofs.Fitting.{fitting_is}
 
 module _ (table : List Event) (from to bits : ℕ) where
   abbrev len : ℕ → ℕ
@@ -47,7 +47,7 @@ module _ (table : List Event) (from to bits : ℕ) where
         let a = s.rises in
         let b = s.inside in
         let same : x.high ≡ x.low = omega arith in
-        fitting-is table bits from to rising seg x.low s.begun (omega arith) s.fit
+        fitting_is table bits from to rising seg x.low s.begun (omega arith) s.fit
         (subst (λ (y : ℕ). y < to → bits < len y) same s.past)
 
     -- after the event at place k is read

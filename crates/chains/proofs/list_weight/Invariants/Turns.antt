@@ -1,6 +1,6 @@
 -- Where the loop of `list_weight` stands: the states left find the rest of the words.
 -- Assumes nothing.
-use Prim.Native.Nat.{ℕ, suc, ◌+◌, ◌-◌, ◌≤◌, ◌<◌, ◌^◌}
+use Prim.Native.Nat.{ℕ, suc, ◌+◌, ◌-◌, ◌≤◌, ◌<◌}
 use native.Mathlib.Nat.{lt_of_lt_of_le}
 use native.Mathlib.Omega.{arith}
 use mathlib.Core.Path.{◌≡◌, refl, sym, ap, ◌∙◌, subst}
@@ -13,7 +13,7 @@ use Rattle.rotations.proofs.Puts.{puts_none, puts-append, length-puts, puts-plac
 use Rattle.bounds.specs.Model.Places.{state_count}
 use Rattle.bounds.specs.Model.Tables.{bits_at}
 use Rattle.chains.specs.Model.Chaining.{at_state, after_state, after_states, found, found_from, unbegun, lighter_listed, weight_listed, Indexed, Near, ToListState, ToListWeight}
-use Rattle.chains.proofs.States.{bits-after-state, indexed-after-state}
+use Rattle.chains.proofs.States.{bits_after_state, indexed_after_state}
 
 -- what n states from i on leave
 abbrev pub listed_from : List Event → ℕ → ℕ → ℕ → ℕ → List ℕ → List ℕ × ℕ → List ℕ × (List ℕ × ℕ)
@@ -33,8 +33,8 @@ module _ {table : List Event} {work paths : List ℕ} {at states first w : ℕ} 
     pub indexed : Indexed table us
     pub near : Near ls next
     pub same_bits : bits_at us ≡ bits_at work
-    pub same-us : length us ≡ length work
-    pub same-ls : length ls ≡ length paths
+    pub same_us : length us ≡ length work
+    pub same_ls : length ls ≡ length paths
     pub left : listed_from table first w (states - i) i us (ls, next) ≡ weight_listed table first w states work (paths, at)
 
   pub record Stage : Type 0 where
@@ -42,17 +42,15 @@ module _ {table : List Event} {work paths : List ℕ} {at states first w : ℕ} 
     pub next : ℕ
     pub us : List ℕ
     pub ls : List ℕ
-    pub i-fits : i < 2 ^ 64
-    pub next_fits : next < 2 ^ 64
     pub stands : Stands i next us ls
 
-  pub stands-first : Stands 0 at work paths
-  stands-first = record {
+  pub stands_first : Stands 0 at work paths
+  stands_first = record {
     indexed = ask.indexed;
     near = ask.near;
     same_bits = refl;
-    same-us = refl;
-    same-ls = refl;
+    same_us = refl;
+    same_ls = refl;
     left = ap (λ (n : ℕ). listed_from table first w n 0 work (paths, at)) (all states);
   }
     where
@@ -64,8 +62,8 @@ module _ {table : List Event} {work paths : List ℕ} {at states first w : ℕ} 
       few : x.i < state_count
       few = lt_of_lt_of_le less ask.few_states
 
-      pub asks-state : ToListState table x.us x.ls x.next x.i first w
-      asks-state = record {
+      pub asks_state : ToListState table x.us x.ls x.next x.i first w
+      asks_state = record {
         indexed = x.stands.indexed;
         state_small = few;
         short_to_turn = λ turned. subst (λ (N : ℕ). N ≤ 128) (sym x.stands.same_bits) (ask.short_to_turn turned);
@@ -73,13 +71,13 @@ module _ {table : List Event} {work paths : List ℕ} {at states first w : ℕ} 
         near = x.stands.near;
       }
 
-      module _ {us ls : List ℕ} {r : ℕ} (same-us : length us ≡ length work) (same-ls : length ls ≡ length paths)
+      module _ {us ls : List ℕ} {r : ℕ} (same_us : length us ≡ length work) (same_ls : length ls ≡ length paths)
           (turn : (us, (ls, r)) ≡ lighter_listed table first w x.i x.us (x.ls, x.next)) where
         abbrev words : List ℕ
         words = found table (at_state table x.i x.us) (unbegun (bits_at x.us) first w)
 
-        left-again : listed_from table first w (states - (x.i + 1)) (x.i + 1) us (ls, r) ≡ weight_listed table first w states work (paths, at)
-        left-again =
+        left_again : listed_from table first w (states - (x.i + 1)) (x.i + 1) us (ls, r) ≡ weight_listed table first w states work (paths, at)
+        left_again =
             let n : ℕ = states - (x.i + 1) in
             let one : states - x.i ≡ suc n = omega arith in
             ap (λ (y : List ℕ × (List ℕ × ℕ)). listed_from table first w n (x.i + 1) y.0 y.1) turn
@@ -93,16 +91,16 @@ module _ {table : List Event} {work paths : List ℕ} {at states first w : ℕ} 
             (subst (λ (n : ℕ). (puts words (x.ls, x.next)).1 ≤ path_room n + 1) (sym (length-puts words (x.ls, x.next)))
             (puts-place words (x.ls, x.next) x.stands.near))
 
-        pub stands-next : Stands (x.i + 1) r us ls
-        stands-next = record {
+        pub stands_next : Stands (x.i + 1) r us ls
+        stands_next = record {
           indexed = subst (Indexed table) (sym (ap (λ (y : List ℕ × (List ℕ × ℕ)). y.0) turn))
-              (indexed-after-state x.stands.indexed x.i few w);
+              (indexed_after_state x.stands.indexed x.i few w);
           near = near_again;
-          same_bits = ap (λ (y : List ℕ × (List ℕ × ℕ)). bits_at y.0) turn ∙ bits-after-state x.stands.indexed x.i few w
+          same_bits = ap (λ (y : List ℕ × (List ℕ × ℕ)). bits_at y.0) turn ∙ bits_after_state x.stands.indexed x.i few w
               ∙ x.stands.same_bits;
-          same-us = same-us;
-          same-ls = same-ls;
-          left = left-again;
+          same_us = same_us;
+          same_ls = same_ls;
+          left = left_again;
         }
 
     pub all_listed : states ≤ x.i → (x.us, (x.ls, x.next)) ≡ weight_listed table first w states work (paths, at)

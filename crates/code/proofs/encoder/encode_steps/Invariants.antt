@@ -1,17 +1,13 @@
 -- The invariant: the window t steps on, and what these steps send at the front of a cleared output.
-use mathlib.Core.Path.{◌≡◌, refl, sym, ap, ◌∙◌}
-use mathlib.Core.List.{List, map}
-use Prim.Native.Nat.{ℕ, ◌+◌, ◌-◌, ◌*◌, ◌≤◌, zero-le}
-use native.Mathlib.Nat.{zero-mul}
-use native.Mathlib.Omega.{arith}
-use lib.ListN.{length, length-replicate}
+use mathlib.Core.Path.{◌≡◌}
+use mathlib.Core.List.{List}
+use Prim.Native.Nat.{ℕ, ◌-◌, ◌*◌, ◌≤◌}
+use lib.ListN.{length}
 use lib.Seq.{sets}
 use Rattle.poly.specs.Word.{number}
-use Rattle.code.specs.Trellis.{tapped}
 use Rattle.code.specs.Model.Window.{Later}
 use Rattle.code.specs.declared.window.Window.{Window}
-use Rattle.code.proofs.Windows.{later_none, later_more, kept_memory, kept-inputs}
-use Rattle.code.proofs.Sent.{sent, sent-none, sent-more, step_room, at_more, stored-length, all_sent}
+use Rattle.code.proofs.Sent.{sent}
 use Rattle.code.proofs.encoder.encode_steps.Given as goal
 
 pub record Sending (output₀ gs : List ℕ) (steps : ℕ) (w₀ : Window) (output : List ℕ) (w : Window) (t at : ℕ) : Type 0 where

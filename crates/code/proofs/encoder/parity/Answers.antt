@@ -1,7 +1,6 @@
 -- The parity of a count of ones.
 use mathlib.Core.Path.{refl}
 use Rattle.code.specs.Trellis.{tapped}
-use borrow.Author.Rules.{rules}
 use Rattle.code.proofs.encoder.parity.Goals as goal
 
 pub returns : goal.returns

@@ -1,11 +1,8 @@
-use borrow.Author.Rules.{rules}
-use mathlib.Core.Path.{◌≡◌, refl, ap, ◌∙◌}
-use mathlib.Core.List.{List, map}
-use Prim.Native.Nat.{ℕ, ◌+◌, ◌-◌, ◌≤◌, zero-le}
+use mathlib.Core.Path.{refl, ap, ◌∙◌}
+use Prim.Native.Nat.{◌+◌, zero-le}
 use native.Mathlib.Omega.{arith}
-use lib.ListN.{length, take, set, length-set}
-use lib.Seq.{sets}
-use Rattle.lists.proofs.Stores.{sets-map-more, sets-map-all}
+use lib.ListN.{set, length-set}
+use Rattle.lists.proofs.Stores.{sets_map_more, sets_map-all}
 use Rattle.code.specs.Trellis.{tapped}
 use Rattle.code.proofs.encoder.put_step.Goals as goal
 
@@ -16,7 +13,7 @@ pub loop-i-preserved : goal.loop-i-preserved
 loop-i-preserved c =
     let l = c.loop-i in
     let a = c.args in
-    let more = sets-map-more (tapped a.inputs) a.generators.now 0 a.output.now a.at l.i _ (omega arith) in
+    let more = sets_map_more (tapped a.inputs) a.generators.now 0 a.output.now a.at l.i _ (omega arith) in
     record {
       within = omega arith;
       same_size = length-set l.output (a.at + l.i) _ ∙ l.invariant.same_size;
@@ -30,4 +27,4 @@ pub returns : goal.returns
 returns c =
     let l = c.loop-i in
     let a = c.args in
-    l.invariant.stored ∙ sets-map-all (tapped a.inputs) a.generators.now 0 a.output.now a.at l.i (omega arith)
+    l.invariant.stored ∙ sets_map-all (tapped a.inputs) a.generators.now 0 a.output.now a.at l.i (omega arith)

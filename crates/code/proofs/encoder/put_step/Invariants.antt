@@ -1,12 +1,9 @@
 -- The invariant: the first i generators have been stored.
-use borrow.Author.Rules.{rules}
-use mathlib.Core.Path.{◌≡◌, refl, ap, ◌∙◌}
+use mathlib.Core.Path.{◌≡◌}
 use mathlib.Core.List.{List, map}
-use Prim.Native.Nat.{ℕ, ◌+◌, ◌-◌, ◌≤◌, zero-le}
-use native.Mathlib.Omega.{arith}
-use lib.ListN.{length, take, set, length-set}
+use Prim.Native.Nat.{ℕ, ◌-◌, ◌≤◌}
+use lib.ListN.{length, take}
 use lib.Seq.{sets}
-use Rattle.lists.proofs.Stores.{sets-map-more, sets-map-all}
 use Rattle.code.specs.Trellis.{tapped}
 use Rattle.code.proofs.encoder.put_step.Given as goal
 

@@ -1,10 +1,6 @@
 use native.Mathlib.Nat.{zero-add}
 use native.Mathlib.Omega.{arith}
-use mathlib.Core.Path.{◌≡◌}
-use mathlib.Core.List.{List}
-use Prim.Native.Nat.{ℕ, ◌+◌, ◌-◌, ◌/◌, ◌%◌, ◌≤◌, ◌<◌}
-use lib.ListN.{length, drop}
-use Rattle.code.specs.Trellis.{step_weight}
+use Prim.Native.Nat.{◌<◌}
 use Rattle.code.proofs.Weights.{tapped_lt, step_again, step_end}
 use Rattle.code.proofs.encoder.step_weight.Goals as goal
 

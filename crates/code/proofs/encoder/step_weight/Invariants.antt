@@ -1,12 +1,9 @@
 -- The invariant: the sum and what the generators left add is the whole.
-use native.Mathlib.Nat.{zero-add}
-use native.Mathlib.Omega.{arith}
 use mathlib.Core.Path.{◌≡◌}
 use mathlib.Core.List.{List}
-use Prim.Native.Nat.{ℕ, ◌+◌, ◌-◌, ◌/◌, ◌%◌, ◌≤◌, ◌<◌}
+use Prim.Native.Nat.{ℕ, ◌+◌, ◌-◌, ◌/◌, ◌%◌, ◌≤◌}
 use lib.ListN.{length, drop}
 use Rattle.code.specs.Trellis.{step_weight}
-use Rattle.code.proofs.Weights.{tapped_lt, step_again, step_end}
 use Rattle.code.proofs.encoder.step_weight.Given as goal
 
 pub record Summing (generators : List ℕ) (x sum i : ℕ) : Type 0 where

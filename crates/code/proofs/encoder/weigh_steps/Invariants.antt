@@ -1,18 +1,12 @@
 -- The invariant: the window k steps on, and what these steps weigh.
-use mathlib.Core.Path.{◌≡◌, ◌∙◌}
+use mathlib.Core.Path.{◌≡◌}
 use mathlib.Core.List.{List}
-use Prim.Native.Nat.{ℕ, ◌-◌, ◌*◌, ◌≤◌, zero-le}
-use native.Mathlib.Omega.{arith}
-use lib.ListN.{length}
+use Prim.Native.Nat.{ℕ, ◌-◌, ◌*◌, ◌≤◌}
 use Rattle.lists.specs.Lists.{sum}
 use Rattle.poly.specs.Word.{number}
-use Rattle.code.specs.Model.Steps.{most_steps}
 use Rattle.code.specs.Model.Window.{Later}
 use Rattle.code.specs.declared.window.Window.{Window}
 use Rattle.code.proofs.Steps.{weighs}
-use Rattle.code.proofs.Links.{few-steps}
-use Rattle.code.proofs.Windows.{later_none, later_more, kept_memory, kept-inputs}
-use Rattle.code.proofs.Weights.{step_few, steps-none, steps-more, steps_end}
 use Rattle.code.proofs.encoder.weigh_steps.Given as goal
 
 pub record Weighing (gs : List ℕ) (steps : ℕ) (w₀ w : Window) (total k : ℕ) : Type 0 where

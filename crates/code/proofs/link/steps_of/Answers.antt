@@ -2,7 +2,7 @@
 use mathlib.Core.Path.{sym, ◌∙◌}
 use native.Mathlib.Omega.{arith}
 use Rattle.order.specs.Answers.{order_in}
-use Rattle.code.proofs.Links.{steps-terminated, steps-tail-biting}
+use Rattle.code.proofs.Links.{steps-terminated, steps_tail_biting}
 use Rattle.code.proofs.link.steps_of.Goals as goal
 
 pub overflow_add-result : goal.overflow_add-result
@@ -15,4 +15,4 @@ returns-then-is_terminated c = sym (steps-terminated _ (sym c.is_terminated.ensu
 
 pub returns : goal.returns
 unfolding order_in
-returns c = sym (steps-tail-biting _ (sym c.is_terminated.ensures ∙ c.if-is_terminated.false))
+returns c = sym (steps_tail_biting _ (sym c.is_terminated.ensures ∙ c.if-is_terminated.false))

@@ -1,14 +1,14 @@
 -- By the kind of link.
 use mathlib.Core.Path.{refl, sym, ◌∙◌}
 use Rattle.order.specs.Answers.{order_in}
-use Rattle.code.proofs.Windows.{begins-terminated, begins-tail-biting}
+use Rattle.code.proofs.Windows.{begins_terminated, begins_tail_biting}
 use Rattle.code.proofs.window.first_window.Goals as goal
 
 pub returns-then-is_terminated : goal.returns-then-is_terminated
 unfolding order_in
 returns-then-is_terminated c =
     let kind = c.is_terminated.ensures in
-    record { memory = refl; state = sym (begins-terminated _ _ (sym kind ∙ c.if-is_terminated.true)); rest = refl }
+    record { memory = refl; state = sym (begins_terminated _ _ (sym kind ∙ c.if-is_terminated.true)); rest = refl }
 
 pub last_state-state-requires : goal.last_state-state-requires
 last_state-state-requires c = c.requires
@@ -17,4 +17,4 @@ pub returns : goal.returns
 unfolding order_in
 returns c =
     let kind = c.is_terminated.ensures in
-    record { memory = refl; state = c.last_state_lem.ensures ∙ sym (begins-tail-biting _ _ (sym kind ∙ c.if-is_terminated.false)); rest = refl }
+    record { memory = refl; state = c.last_state-state.ensures ∙ sym (begins_tail_biting _ _ (sym kind ∙ c.if-is_terminated.false)); rest = refl }

@@ -1,9 +1,9 @@
 use mathlib.Core.Path.{◌≡◌, ap₂, ◌∙◌}
-use Prim.Native.Nat.{ℕ, ◌-◌, ◌≤◌, zero-le}
+use Prim.Native.Nat.{ℕ, zero-le}
 use native.Mathlib.Omega.{arith}
 use Rattle.order.specs.Answers.{order_in}
 use Rattle.code.specs.Trellis.{walk}
-use Rattle.code.specs.Model.Window.{Later, last_state}
+use Rattle.code.specs.Model.Window.{last_state}
 use Rattle.code.proofs.Windows.{later_none, later_more}
 use Rattle.code.proofs.window.last_state.Goals as goal
 

@@ -58,9 +58,9 @@ module _ (plan : Plan) (t : SearchTables) (may : ToMake plan t.plain t.undetecte
   abbrev before : Shorter
   before = listed_before plan.job plan.shorter
 
-  pub to-list-shorter : only_events plan.job ≡ 0 → ToListShorter (row_order plan) before es n t.plain us
+  pub to_list_shorter : only_events plan.job ≡ 0 → ToListShorter (row_order plan) before es n t.plain us
   unfolding row_order with_length
-  to-list-shorter z =
+  to_list_shorter z =
       let yes = all-events in
       let asked = served plan.job plan.shorter (row_order plan) t.plain t.undetected may.job in
       let room = (lists plan.job plan.shorter (row_order plan) t.plain t.undetected z may.job).plain_room in
@@ -101,10 +101,10 @@ module _ (plan : Plan) (t : SearchTables) (may : ToMake plan t.plain t.undetecte
           zeros = zeros ∙ cleared_as us t.work wide ∙ cleared_as t.work vs (sym kv);
         }
 
-  pub work-zero : (us₀ : List ℕ) → length us₀ ≡ length t.work → (vs : List ℕ) → vs ≡ cleared 0 us₀ → vs ≡ cleared 0 t.work
-  work-zero us₀ kept vs e = e ∙ cleared_as us₀ t.work kept
+  pub work_zero : (us₀ : List ℕ) → length us₀ ≡ length t.work → (vs : List ℕ) → vs ≡ cleared 0 us₀ → vs ≡ cleared 0 t.work
+  work_zero us₀ kept vs e = e ∙ cleared_as us₀ t.work kept
 
-  pub few-told : (few : ℕ) → few ≡ count_within es n (steps_of (row_order plan)) → few ≡ length (events (row_order plan))
-  few-told few e =
+  pub few_told : (few : ℕ) → few ≡ count_within es n (steps_of (row_order plan)) → few ≡ length (events (row_order plan))
+  few_told few e =
       let yes = all-events in
       e ∙ ap₂ (λ (x : List Event) (k : ℕ). count_within x k (steps_of (row_order plan))) yes.table yes.number ∙ counted_shorter may.no_longer (length t.events)

@@ -1,5 +1,4 @@
 -- One of the two ranges of digits.
-use borrow.Author.Rules.{rules}
 use borrow.Author.Tests.{lt-ltb, le-ltb}
 use Rattle.lines.specs.Lines.{digit}
 use Rattle.lines.proofs.numbers.digit_of.Goals as goal

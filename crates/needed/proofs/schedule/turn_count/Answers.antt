@@ -6,7 +6,7 @@ use Prim.Native.Nat.{ℕ, ◌*◌, ◌^◌, ◌≤◌, ◌<◌}
 use lib.Pow.{pow_mono}
 use Rattle.order.specs.Answers.{order_in}
 use Rattle.code.specs.Model.Steps.{most_steps}
-use Rattle.code.proofs.Links.{few-steps, states-le}
+use Rattle.code.proofs.Links.{few_steps, states_le}
 use Rattle.needed.proofs.schedule.turn_count.Goals as goal
 
 product_fits : (a n : ℕ) → a ≤ 256 → n ≤ most_steps → a * n < 2 ^ 64
@@ -25,9 +25,9 @@ overflow_mul-result c =
     let o = order_in c.args.order in
     let code = c.requires in
     let few : 2 ^ o.v ≤ 2 ^ 8 = pow_mono code.small_memory in
-    let some = states-le o in
+    let some = states_le o in
     let states = c.event_states-states.ensures in
-    let most = few-steps o code in
+    let most = few_steps o code in
     let steps = c.steps_of-steps.ensures in
     record { fits = product_fits _ _ (omega arith) (omega arith) }
 

@@ -5,7 +5,7 @@ use native.Mathlib.Omega.{arith}
 use lib.Pow.{pow_mono}
 use borrow.Author.Rules.{rules}
 use Rattle.order.specs.Answers.{order_in}
-use Rattle.code.proofs.Links.{few-steps, some-steps}
+use Rattle.code.proofs.Links.{few_steps, some_steps}
 use Rattle.needed.specs.Model.Tables.{turned}
 use Rattle.needed.proofs.schedule.turn_for.Goals as goal
 
@@ -19,18 +19,15 @@ steps_of-steps-requires c = c.requires.0
 pub turn-requires : goal.turn-requires
 unfolding order_in
 turn-requires c =
-    let start = c in
-    let acc = start.requires.0 in
-    let few = few-steps (order_in start.args.order) acc in
-    let some = some-steps (order_in start.args.order) acc in
-    let states : 2 ^ start.args.order.v ≤ 2 ^ 8 = pow_mono acc.small_memory in
+    let acc = c.requires.0 in
+    let few = few_steps (order_in c.args.order) acc in
+    let some = some_steps (order_in c.args.order) acc in
+    let states : 2 ^ c.args.order.v ≤ 2 ^ 8 = pow_mono acc.small_memory in
     let rows = c.row_words-words.ensures in
     let steps = c.steps_of-steps.ensures in
-    (record { tables = start.requires.1; narrow = omega arith; few = omega arith }, omega arith)
+    (record { tables = c.requires.1; narrow = omega arith; few = omega arith }, omega arith)
 
 pub returns : goal.returns
 returns c =
-    let after = c in
-    let start = after in
-    after.turn.ensures
-    ∙ ap₂ (λ (words steps : ℕ). turned words steps start.args.k start.args.work.now) after.row_words-words.ensures after.steps_of-steps.ensures
+    c.turn.ensures
+    ∙ ap₂ (λ (words steps : ℕ). turned words steps c.args.k c.args.work.now) c.row_words-words.ensures c.steps_of-steps.ensures

@@ -1,11 +1,9 @@
 use native.Mathlib.Omega.{arith}
 use mathlib.Core.Path.{refl, ◌∙◌}
-use Prim.Native.Nat.{◌-◌}
 use lib.Dec.{lit<}
 use lib.ListN.{length-set}
-use Rattle.needed.specs.Model.Tables.{row_from}
 use Rattle.needed.proofs.Places.{rows_region}
-use Rattle.needed.proofs.Filling.{Underway, row_begin, row_again, row_end, tables_set}
+use Rattle.needed.proofs.Filling.{row_begin, row_again, row_end, tables_set}
 use Rattle.needed.proofs.tables.fill_row.Goals as goal
 
 pub loop-q-init : goal.loop-q-init

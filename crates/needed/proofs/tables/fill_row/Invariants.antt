@@ -1,12 +1,7 @@
 -- The invariant: what is left to store, stored from here, gives the whole, and the sums are still small.
-use native.Mathlib.Omega.{arith}
-use mathlib.Core.Path.{refl, ◌∙◌}
 use Prim.Native.Nat.{◌-◌}
-use lib.Dec.{lit<}
-use lib.ListN.{length-set}
 use Rattle.needed.specs.Model.Tables.{row_from}
-use Rattle.needed.proofs.Places.{rows_region}
-use Rattle.needed.proofs.Filling.{Underway, row_begin, row_again, row_end, tables_set}
+use Rattle.needed.proofs.Filling.{Underway}
 use Rattle.needed.proofs.tables.fill_row.Given as goal
 
 abbrev pub invariant-loop-q : goal.invariant-loop-q

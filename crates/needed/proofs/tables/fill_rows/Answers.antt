@@ -1,9 +1,8 @@
 use native.Mathlib.Omega.{arith}
 use mathlib.Core.Path.{refl, ap, sym, ◌∙◌, subst}
-use Prim.Native.Nat.{◌-◌}
 use lib.ListN.{length}
-use Rattle.needed.specs.Model.Tables.{rows_from, Tables}
-use Rattle.needed.proofs.Filling.{Underway, rows_begin, rows_again, rows_end, length-row_from, tables_row_from}
+use Rattle.needed.specs.Model.Tables.{Tables}
+use Rattle.needed.proofs.Filling.{rows_begin, rows_again, rows_end, length-row_from, tables_row_from}
 use Rattle.needed.proofs.tables.fill_rows.Goals as goal
 
 pub loop-t-init : goal.loop-t-init

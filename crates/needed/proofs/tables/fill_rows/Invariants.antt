@@ -1,10 +1,7 @@
 -- The invariant: the rows left, filled from here, give the whole, and the sums are still small.
-use native.Mathlib.Omega.{arith}
-use mathlib.Core.Path.{refl, ap, sym, ◌∙◌, subst}
 use Prim.Native.Nat.{◌-◌}
-use lib.ListN.{length}
-use Rattle.needed.specs.Model.Tables.{rows_from, Tables}
-use Rattle.needed.proofs.Filling.{Underway, rows_begin, rows_again, rows_end, length-row_from, tables_row_from}
+use Rattle.needed.specs.Model.Tables.{rows_from}
+use Rattle.needed.proofs.Filling.{Underway}
 use Rattle.needed.proofs.tables.fill_rows.Given as goal
 
 abbrev pub invariant-loop-t : goal.invariant-loop-t

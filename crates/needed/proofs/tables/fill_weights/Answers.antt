@@ -1,9 +1,6 @@
 use native.Mathlib.Omega.{arith}
-use mathlib.Core.Path.{◌≡◌, refl, ◌∙◌}
-use mathlib.Core.List.{List}
-use Prim.Native.Nat.{ℕ, ◌-◌, ◌≤◌}
-use lib.ListN.{length, length-set}
-use Rattle.needed.specs.Model.Tables.{step_count, weights_from}
+use mathlib.Core.Path.{refl, ◌∙◌}
+use lib.ListN.{length-set}
 use Rattle.needed.proofs.Filling.{weights_again, weights_end}
 use Rattle.needed.proofs.tables.fill_weights.Goals as goal
 

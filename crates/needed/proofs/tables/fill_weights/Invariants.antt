@@ -1,11 +1,9 @@
 -- The invariant: what is left to store, stored from here, gives the whole.
-use native.Mathlib.Omega.{arith}
-use mathlib.Core.Path.{◌≡◌, refl, ◌∙◌}
+use mathlib.Core.Path.{◌≡◌}
 use mathlib.Core.List.{List}
 use Prim.Native.Nat.{ℕ, ◌-◌, ◌≤◌}
-use lib.ListN.{length, length-set}
+use lib.ListN.{length}
 use Rattle.needed.specs.Model.Tables.{step_count, weights_from}
-use Rattle.needed.proofs.Filling.{weights_again, weights_end}
 use Rattle.needed.proofs.tables.fill_weights.Given as goal
 
 pub record Weighing (generators work₀ work : List ℕ) (x : ℕ) : Type 0 where

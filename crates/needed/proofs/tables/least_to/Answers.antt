@@ -1,5 +1,4 @@
 -- At the start, below i, or the lesser of the two ways.
-use borrow.Author.Rules.{rules}
 use Rattle.needed.proofs.Filling.{least_at_start, least_off_start, least_below, least_found}
 use Rattle.needed.proofs.tables.least_to.Goals as goal
 
@@ -14,5 +13,4 @@ returns-then-s-i-2 c = least_below _ _ _ _ c.if-t-eq0.false c.if-s-i-2.true
 
 pub returns : goal.returns
 returns c =
-    let past = c in
-    least_found _ _ _ _ _ _ _ _ past.if-t-eq0.false past.if-s-i-2.false past.through-a.ensures c.through-b.ensures c.least.ensures c.least-2.ensures
+    least_found _ _ _ _ _ _ _ _ c.if-t-eq0.false c.if-s-i-2.false c.through-a.ensures c.through-b.ensures c.least.ensures c.least-2.ensures

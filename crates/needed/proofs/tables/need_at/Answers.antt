@@ -1,5 +1,4 @@
 -- A byte of a word.
-use borrow.Author.Rules.{rules}
 use mathlib.Core.Path.{refl}
 use Rattle.needed.specs.Model.Tables.{need}
 use Rattle.needed.proofs.tables.need_at.Goals as goal

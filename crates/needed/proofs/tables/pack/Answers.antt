@@ -1,7 +1,5 @@
 use native.Mathlib.Omega.{arith}
-use mathlib.Core.Path.{◌≡◌}
-use Prim.Native.Nat.{◌+◌, ◌-◌, ◌*◌, ◌≤◌}
-use Rattle.needed.specs.Model.Tables.{packed}
+use Prim.Native.Nat.{◌+◌, ◌-◌, ◌*◌}
 use Rattle.needed.proofs.Filling.{least_to_small, pack_fits, pack_start, pack_turn, pack_end}
 use Rattle.needed.proofs.tables.pack.Goals as goal
 

@@ -1,9 +1,7 @@
 -- The invariant: the bytes from the highest down to k are in the number.
-use native.Mathlib.Omega.{arith}
 use mathlib.Core.Path.{◌≡◌}
 use Prim.Native.Nat.{◌+◌, ◌-◌, ◌*◌, ◌≤◌}
 use Rattle.needed.specs.Model.Tables.{packed}
-use Rattle.needed.proofs.Filling.{least_to_small, pack_fits, pack_start, pack_turn, pack_end}
 use Rattle.needed.proofs.tables.pack.Given as goal
 
 abbrev pub invariant-loop-k : goal.invariant-loop-k

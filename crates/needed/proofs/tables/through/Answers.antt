@@ -1,5 +1,4 @@
 -- A least weight and a step.
-use borrow.Author.Rules.{rules}
 use native.Mathlib.Omega.{arith}
 use mathlib.Core.Path.{ap₂}
 use Prim.Native.Nat.{◌+◌}
@@ -9,9 +8,8 @@ use Rattle.needed.proofs.tables.through.Goals as goal
 
 pub overflow_add-result : goal.overflow_add-result
 overflow_add-result c =
-    let start = c in
-    let a = start.args in
-    let p = start.requires in
+    let a = c.args in
+    let p = c.requires in
     let s = step_small a.work.now {p = a.p} {b = a.b} record { tables = p.0.tables; state = p.0.state; input = p.1 } in
     let n = need-small a.work.now a.t a.p in
     omega arith

@@ -1,5 +1,4 @@
 -- The length, and at the first length of a state its least weights.
-use borrow.Author.Rules.{rules}
 use native.Mathlib.Omega.{arith}
 use mathlib.Core.Path.{ap, ◌∙◌}
 use Prim.Native.Nat.{◌%◌, ◌<◌}

@@ -1,12 +1,8 @@
 -- The invariant: what is left decides.
-use Rattle.order.proofs.Answers.{zero_out_of_range, large_out_of_range, is_in_range}
-use borrow.Author.Rules.{rules}
-use mathlib.Core.Path.{◌≡◌, refl, sym, ◌∙◌}
-use Prim.Native.Nat.{◌-◌, ◌≤◌, zero-le}
-use native.Mathlib.Omega.{arith}
+use mathlib.Core.Path.{◌≡◌}
+use Prim.Native.Nat.{◌-◌, ◌≤◌}
 use lib.ListN.{length, drop}
 use Rattle.lists.specs.Lists.{all}
-use Rattle.lists.proofs.Scan.{all_end, all-fails, all-goes-on}
 use Rattle.order.specs.Questions.{in_range}
 use Rattle.order.proofs.questions.all_in_range.Given as goal
 

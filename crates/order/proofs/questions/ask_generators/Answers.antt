@@ -1,10 +1,8 @@
 -- The first of three tests that fails, or none.
 use mathlib.Core.Path.{sym, ap, ◌∙◌}
 use mathlib.Core.Bool.{not}
-use borrow.Author.Tests.{not-true, not-false}
 use Rattle.order.proofs.FirstNo.{first_no_none, first_no_yes, first_no_no}
 use Rattle.order.specs.Questions.{generator_questions}
-use borrow.Author.Rules.{rules}
 use Rattle.order.proofs.questions.ask_generators.Goals as goal
 
 pub returns-then-not-all_in_range : goal.returns-then-not-all_in_range

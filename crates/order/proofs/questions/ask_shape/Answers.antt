@@ -1,9 +1,7 @@
 -- The first of four tests that fails, or none.
 use mathlib.Core.Path.{sym, ◌∙◌}
-use borrow.Author.Tests.{not-true, not-false}
 use Rattle.order.proofs.FirstNo.{first_no_none, first_no_yes, first_no_no}
 use Rattle.order.specs.Questions.{shape_questions}
-use borrow.Author.Rules.{rules}
 use Rattle.order.proofs.questions.ask_shape.Goals as goal
 
 pub returns-then-not-from_to : goal.returns-then-not-from_to

@@ -3,7 +3,6 @@ use native.Mathlib.Omega.{arith}
 use mathlib.Core.Path.{refl, sym}
 use Rattle.poly.specs.Poly.{bit}
 use Rattle.poly.proofs.Bits.{bit_above}
-use borrow.Author.Rules.{rules}
 use Rattle.order.proofs.questions.bit_of.Goals as goal
 
 pub returns-then-j-lt64 : goal.returns-then-j-lt64

@@ -1,7 +1,6 @@
 -- Both tests.
 use mathlib.Core.Path.{sym, ◌∙◌}
 use Rattle.lists.proofs.Tests.{and_yes, and_no}
-use borrow.Author.Rules.{rules}
 use Rattle.order.proofs.questions.degree_fits.Goals as goal
 
 pub returns-then-from_to : goal.returns-then-from_to

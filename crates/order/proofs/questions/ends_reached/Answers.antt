@@ -1,7 +1,6 @@
 -- Both tests.
 use mathlib.Core.Path.{sym, ◌∙◌}
 use Rattle.lists.proofs.Tests.{and_yes, and_no}
-use borrow.Author.Rules.{rules}
 use Rattle.order.proofs.questions.ends_reached.Goals as goal
 
 pub returns-then-some_has_bit : goal.returns-then-some_has_bit

@@ -6,7 +6,6 @@ use Rattle.order.proofs.Answers.{no_such_degree}
 use native.Mathlib.Omega.{arith}
 use mathlib.Core.Path.{ap, ◌∙◌}
 use borrow.Author.Tests.{eq-eqb, ne_eqb}
-use borrow.Author.Rules.{rules}
 use Rattle.order.proofs.questions.is_check_polynomial.Goals as goal
 
 pub returns-then-m-gt63 : goal.returns-then-m-gt63

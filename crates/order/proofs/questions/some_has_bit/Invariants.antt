@@ -1,12 +1,8 @@
 -- The invariant: what is left decides.
-use Rattle.order.proofs.Answers.{has_bit_lem, has_no_bit}
-use borrow.Author.Rules.{rules}
-use mathlib.Core.Path.{◌≡◌, refl, sym, ◌∙◌}
-use Prim.Native.Nat.{◌-◌, ◌≤◌, zero-le}
-use native.Mathlib.Omega.{arith}
+use mathlib.Core.Path.{◌≡◌}
+use Prim.Native.Nat.{◌-◌, ◌≤◌}
 use lib.ListN.{length, drop}
 use Rattle.lists.specs.Lists.{any}
-use Rattle.lists.proofs.Scan.{any-end, any-passes, any-goes-on}
 use Rattle.order.specs.Questions.{has_bit}
 use Rattle.order.proofs.questions.some_has_bit.Given as goal
 

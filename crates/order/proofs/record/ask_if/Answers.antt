@@ -1,6 +1,5 @@
 -- Not asked, answered with yes, or with no.
 use mathlib.Core.Path.{sym, ◌∙◌}
-use borrow.Author.Tests.{not-true, not-false}
 use Rattle.order.proofs.FirstNo.{first_no_none, first_no_yes, first_no_no}
 use Rattle.order.proofs.Asked.{not_taken, taken_said}
 use Rattle.order.proofs.record.ask_if.Goals as goal

@@ -1,13 +1,13 @@
 -- Refused by the shape, by the numbers or by the generators, or by none.
 use native.Mathlib.Omega.{arith}
-use Rattle.order.proofs.Asked.{refused-by-shape, shape_of, refused-by-numbers, all_asked}
+use Rattle.order.proofs.Asked.{refused_by_shape, shape_of, refused_by_numbers, all_asked}
 use Rattle.order.proofs.record.ask_order.Goals as goal
 
 pub returns-then-shape-ne0 : goal.returns-then-shape-ne0
-returns-then-shape-ne0 c = refused-by-shape _ _ _ c.ask_shape-shape.ensures c.if-shape-ne0.true
+returns-then-shape-ne0 c = refused_by_shape _ _ _ c.ask_shape-shape.ensures c.if-shape-ne0.true
 
 pub returns-then-numbers-ne0 : goal.returns-then-numbers-ne0
-returns-then-numbers-ne0 c = refused-by-numbers _ _ _ c.ask_shape-shape.ensures c.if-shape-ne0.false _ c.ask_numbers-numbers.ensures c.if-numbers-ne0.true
+returns-then-numbers-ne0 c = refused_by_numbers _ _ _ c.ask_shape-shape.ensures c.if-shape-ne0.false _ c.ask_numbers-numbers.ensures c.if-numbers-ne0.true
 
 pub ask_four-requires : goal.ask_four-requires
 ask_four-requires c =

@@ -1,9 +1,7 @@
 -- The first of three tests that fails, or none.
 use mathlib.Core.Path.{sym, ◌∙◌}
-use borrow.Author.Tests.{not-true, not-false}
 use Rattle.order.proofs.FirstNo.{first_no_none, first_no_yes, first_no_no}
 use Rattle.order.specs.Order.{record_questions}
-use borrow.Author.Rules.{rules}
 use Rattle.order.proofs.record.ask_record.Goals as goal
 
 pub returns-then-not-length_right : goal.returns-then-not-length_right

@@ -1,6 +1,5 @@
 -- Two tests, one after the other.
 use Rattle.order.proofs.Records.{count_none, count-told}
-use borrow.Author.Rules.{rules}
 use Rattle.order.proofs.record.count_right.Goals as goal
 
 pub returns-then-bytes-lt4 : goal.returns-then-bytes-lt4

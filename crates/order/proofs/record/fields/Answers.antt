@@ -1,7 +1,6 @@
 -- Each field at its place.
 use mathlib.Core.List.{[], ◌∷◌}
 use Rattle.order.specs.Model.Fields.{fields_of}
-use borrow.Author.Rules.{rules}
 use Rattle.order.proofs.record.fields.Goals as goal
 
 pub returns : goal.returns

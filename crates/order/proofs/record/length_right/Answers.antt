@@ -1,6 +1,5 @@
 -- Two tests, one after the other.
 use Rattle.order.proofs.Records.{length_none, length-told}
-use borrow.Author.Rules.{rules}
 use Rattle.order.proofs.record.length_right.Goals as goal
 
 pub returns-then-size-lt2 : goal.returns-then-size-lt2

@@ -2,7 +2,6 @@
 use mathlib.Core.Path.{ap₂}
 use Prim.Native.Nat.{ℕ, ◌+◌, ◌*◌}
 use Rattle.order.specs.Order.{be16}
-use borrow.Author.Rules.{rules}
 use Rattle.order.proofs.record.two_at.Goals as goal
 
 pub returns : goal.returns

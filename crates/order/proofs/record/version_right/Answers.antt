@@ -1,7 +1,6 @@
 -- Two tests, one after the other.
 use mathlib.Core.Path.{◌∙◌}
 use Rattle.order.proofs.Records.{version_none, version_told}
-use borrow.Author.Rules.{rules}
 use Rattle.order.proofs.record.version_right.Goals as goal
 
 pub returns-then-bytes-lt3 : goal.returns-then-bytes-lt3

@@ -1,9 +1,6 @@
-use mathlib.Core.Path.{◌≡◌, refl, ◌∙◌}
-use Prim.Native.Nat.{ℕ, ◌/◌, ◌^◌, ◌≤◌}
+use mathlib.Core.Path.{refl, ◌∙◌}
 use native.Mathlib.Nat.{le_refl}
 use native.Mathlib.Omega.{arith}
-use Rattle.poly.specs.Poly.{remainder}
-use Rattle.poly.specs.Word.{number}
 use Rattle.poly.proofs.Sum.{bit_lt}
 use Rattle.poly.proofs.Division.{divided_none, divided_by, divided_end, polynomial_small, remainder_in}
 use Rattle.poly.proofs.register.remainder_of.Goals as goal

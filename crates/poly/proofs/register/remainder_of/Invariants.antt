@@ -1,12 +1,8 @@
 -- The invariant: the register holds the remainder of the word without its i lowest bits.
-use mathlib.Core.Path.{◌≡◌, refl, ◌∙◌}
+use mathlib.Core.Path.{◌≡◌}
 use Prim.Native.Nat.{ℕ, ◌/◌, ◌^◌, ◌≤◌}
-use native.Mathlib.Nat.{le_refl}
-use native.Mathlib.Omega.{arith}
 use Rattle.poly.specs.Poly.{remainder}
 use Rattle.poly.specs.Word.{number}
-use Rattle.poly.proofs.Sum.{bit_lt}
-use Rattle.poly.proofs.Division.{divided_none, divided_by, divided_end, polynomial_small, remainder_in}
 use Rattle.poly.proofs.register.remainder_of.Given as goal
 
 pub record Divided (u n m p degree polynomial value i : ℕ) : Type 0 where

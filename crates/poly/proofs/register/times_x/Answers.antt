@@ -1,5 +1,4 @@
 -- The register's step with a zero digit: the numbers are small enough for it.
-use borrow.Author.Rules.{rules}
 use native.Mathlib.Omega.{arith}
 use Rattle.poly.proofs.Division.{polynomial_small}
 use Rattle.poly.proofs.register.times_x.Goals as goal

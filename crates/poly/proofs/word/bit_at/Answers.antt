@@ -1,5 +1,4 @@
 -- `bit_at` is the word's bit: of the low half, of the high half, or past both.
-use borrow.Author.Rules.{rules}
 use native.Mathlib.Omega.{arith}
 use Rattle.poly.proofs.Halves.{bit_of_low, bit_of_high, bit_past}
 use Rattle.poly.proofs.word.bit_at.Goals as goal

@@ -1,7 +1,6 @@
 -- The half that 2^k lies in decides.
 use native.Mathlib.Omega.{arith}
 use Rattle.poly.proofs.Shifts.{below_low, not_below_low, below_high, below_all}
-use borrow.Author.Rules.{rules}
 use Rattle.poly.proofs.word.is_below.Goals as goal
 
 pub returns-then-w-eq0 : goal.returns-then-w-eq0

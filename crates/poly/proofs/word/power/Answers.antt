@@ -1,7 +1,6 @@
 -- A one shifted by k is 2^k, below 64.
 use native.Mathlib.Omega.{arith}
 use Rattle.poly.proofs.Shifts.{shl_one}
-use borrow.Author.Rules.{rules}
 use Rattle.poly.proofs.word.power.Goals as goal
 
 pub returns : goal.returns

@@ -2,7 +2,6 @@
 use native.Mathlib.Omega.{arith}
 use Rattle.poly.specs.Word.{number}
 use Rattle.poly.proofs.Shifts.{down_low_fits, down_halves, down_none, down_high, down_past}
-use borrow.Author.Rules.{rules}
 use Rattle.poly.proofs.word.shift_down.Goals as goal
 
 pub returns-then-k-eq0 : goal.returns-then-k-eq0

@@ -1,7 +1,6 @@
 -- What leaves the low half comes into the high one, and nothing leaves the high one.
 use native.Mathlib.Omega.{arith}
 use Rattle.poly.proofs.Shifts.{up_high_fits, up_halves}
-use borrow.Author.Rules.{rules}
 use Rattle.poly.proofs.word.shift_up.Goals as goal
 
 pub overflow_add-result : goal.overflow_add-result

@@ -2,7 +2,6 @@
 use mathlib.Core.Path.{◌≡◌, ap}
 use Prim.Native.Nat.{ℕ, ◌+◌, ◌*◌, ◌%◌, ◌^◌}
 use native.Mathlib.Omega.{arith}
-use borrow.Author.Rules.{rules}
 use Rattle.code.proofs.window.Window.inputs.Goals as goal
 
 low_bit : (h l : ℕ) → l % 2 ≡ (h * 2 ^ 64 + l) % 2
