@@ -11,8 +11,9 @@ import os
 import re
 import sys
 
-HEAD = re.compile(r"^((?:abbrev |pub |unfoldable )*)(record |data )?([^\s(){}\[\],;:=]+)(?= (?:[({].*)?:)")
-FIELD = re.compile(r"^ {2,4}(?:pub )?([^\s(){}\[\],;:=]+) : ")
+DECLARED = re.compile(r"^( *)((?:abbrev |pub |unfoldable )*)(?:record |data )?([^\s(){}\[\],;:=]+)(?= (?:[({].*)?: )")
+# no name of a declaration: what a line that goes on may begin with
+WORDS = {"let", "in", "elim", "where", "module", "use", "open", "pub", "λ", "--", "→", "|", "∙", "∷", "with"}
 # words of the library that stand in names beside others
 LIBRARY = set("length append drop take map filter sum replicate reverse suc mod min max get_or set insert remove swap concat fold count zip".split())
 
@@ -34,22 +35,15 @@ def own_goal_file(path):
 def declared():
     names, definitions = collections.Counter(), set()
     for p in files(".antt"):
-        in_record = False
+        if own_goal_file(p):
+            continue
         for line in open(p, encoding="utf-8"):
-            if re.match(r"^(pub )?(abbrev )?(pub )?(record|data) ", line):
-                in_record = True
-            elif line.strip() and not line.startswith(" ") and not line.startswith("--"):
-                in_record = False
-            m = HEAD.match(line)
-            if m and not line.startswith(("use ", "--")):
-                if not own_goal_file(p):
-                    names[m.group(3)] += 1
-                    if "/specs/" in p:
-                        definitions.add(m.group(3))
+            m = DECLARED.match(line)
+            if not m or line.lstrip().startswith(("--", "use ", "pub use ")) or m.group(3) in WORDS:
                 continue
-            m = FIELD.match(line) if in_record else None
-            if m and not own_goal_file(p):
-                names[m.group(1)] += 1
+            names[m.group(3)] += 1
+            if "/specs/" in p and not m.group(1):
+                definitions.add(m.group(3))
     return names, definitions
 
 
@@ -78,7 +72,7 @@ APART = {
     "found-from": "found_from_lem",
     "has-bit": "has_bit_lem",
     "in-range": "is_in_range",
-    "is_below": "is_below_lem",  # of sort; a function of poly has the old name and keeps it
+    "is_below": "is_below_lem",
     "last-state": "last_state_lem",
     "no-shared-factor": "shares_no_factor",
     "plain-counts": "plain_counts_are",
@@ -86,20 +80,45 @@ APART = {
     "undetected-counts": "undetected_counts_are",
     "written_as": "written_as_lem",
     "is_digit": "digit_fits",
+    "at-hand": "at_hand_lem",
+    "decided-last": "decided_last_lem",
+    "divided-counts": "divided_counts_lem",
+    "divided-of": "divided_of_lem",
+    "first-state": "first_state_lem",
+    "of-weight": "of_weight_lem",
+    "only-low": "only_low_lem",
+    "state-at": "state_at_lem",
+    "state-of": "state_of_lem",
+    "words-at": "words_at_lem",
+    "work-size": "work_size_is",
+    "row-answer": "row_answer_lem",
 }
+# of these the crate alone whose lemma or field it is: elsewhere the name is a function's
+OF_CRATE = {"is_below": "sort", "written_as": "text", "is_digit": "radix"}
 # one of them is a local or a field of a file that does not know the other
-MEET = {"at_most", "one_more"}
+MEET = {"at_most", "left_over", "one_more", "is_below_lem", "written_as_lem", "digit_fits"}
 MADE = re.compile(r"^(loop|invariant|decreases|need|Need|statement)(-|$)|-requires$")
 CHARS = r"\w'⇔⇒₀-₉\-"
+
+
+def imported():
+    """What the files take from libraries that are not this repository's: those names keep their spelling."""
+    own, names = set(os.listdir("crates")), set()
+    for p in files(".antt", ".rt"):
+        for m in re.finditer(r"^\s*(?:pub |unfoldable |ghost )*use ([^\s{;]+?)\.\{([^}]*)\}", open(p, encoding="utf-8").read(), re.M):
+            parts = m.group(1).split(".")
+            if not (parts[0] == "Rattle" and parts[1] in own):
+                names |= {it.strip().split(" as ")[0] for it in m.group(2).split(",")}
+    return names
 
 
 def respelling():
     """Each name that changes, with its new spelling; and the new names that more than one would get."""
     names, definitions = declared()
     known = {snake(d) for d in definitions if "-" not in d} | LIBRARY
-    new = {}
+    new, theirs = {}, imported()
     for n in names:
-        if "◌" in n or n.startswith("-") or n.endswith("-") or MADE.search(n):
+        if n in theirs or "◌" in n or n.startswith("-") or n.endswith("-") or MADE.search(n):
             continue
         r = APART.get(n) or respelled(n.replace("getD", "get_or"), known)
         if r != n:
@@ -110,16 +129,29 @@ def respelling():
     return new, {k: sorted(v) for k, v in back.items() if len(v) > 1 and k not in MEET}
 
 
-def turn(text, new, word):
-    return word.sub(lambda m: new[m.group(0)], text)
+def turn(text, new, word, path=""):
+    parts = path.split(os.sep)
+    crate = parts[1] if parts[0] == "crates" else None
+
+    def one(m):
+        name = m.group(0)
+        if OF_CRATE.get(name, crate) != crate or name in OF_CRATE and path.endswith(".rt"):
+            return name
+        start = m.string.rfind("\n", 0, m.start()) + 1
+        # an adjective in a comment, and no field
+        if name == "tail-biting" and m.string[start : m.start()].lstrip().startswith(("--", "//")):
+            return name
+        return new[name]
+
+    return word.sub(one, text)
 
 
 def turned(path, text, new, word):
     if path.endswith(".md"):
         return re.sub(r"`[^`\n]*`", lambda m: turn(m.group(0), new, word), text)
     if path.endswith(".rt"):
-        return re.sub(r'b?"(?:[^"\\]|\\.)*"|[^"]+|"', lambda m: m.group(0) if m.group(0).startswith(('"', 'b"')) else turn(m.group(0), new, word), text)
-    return turn(text, new, word)
+        return re.sub(r'b?"(?:[^"\\]|\\.)*"|[^"]+|"', lambda m: m.group(0) if m.group(0).startswith(('"', 'b"')) else turn(m.group(0), new, word, path), text)
+    return turn(text, new, word, path)
 
 
 def main():

@@ -67,22 +67,29 @@ fn source(file: &Path, folder: &Path) -> Result<Source, String> {
     })
 }
 
-/// What the lines `use a::b::Name;` say: Name of the file b of crate a.
+/// What the lines `use a::b::{Name, Other};` say: Name and Other of the file b of crate a.
 fn used(tokens: &[String], file: &Path, folder: &Path) -> BTreeMap<String, PathBuf> {
-    let lines = tokens.split(|token| token == ";");
-    let place = |line: &[String]| {
-        let start = line.iter().rposition(|token| token == "use")?;
-        let path = line[start + 1..].iter().map(String::as_str);
-        let words: Vec<&str> = path.filter(|word| *word != ":").collect();
-        let (name, place) = match words[..] {
-            [krate, name] => (name, folder.join(krate).join("src/lib.rt")),
-            ["super", module, name] => (name, file.with_file_name(format!("{module}.rt"))),
-            [krate, module, name] => (name, folder.join(krate).join(format!("src/{module}.rt"))),
-            _ => return None,
+    let mut all = BTreeMap::new();
+    for line in tokens.split(|token| token == ";") {
+        let Some(start) = line.iter().rposition(|token| token == "use") else {
+            continue;
         };
-        Some((name.to_string(), place))
-    };
-    lines.filter_map(place).collect()
+        let path = line[start + 1..].iter().map(String::as_str);
+        let path: Vec<&str> = path.filter(|word| *word != ":").collect();
+        let (before, names) = match path.iter().position(|word| *word == "{") {
+            Some(at) => (&path[..at], &path[at + 1..]),
+            None => path.split_at(path.len().saturating_sub(1)),
+        };
+        let place = match *before {
+            [krate] => folder.join(krate).join("src/lib.rt"),
+            ["super", module] => file.with_file_name(format!("{module}.rt")),
+            [krate, module] => folder.join(krate).join(format!("src/{module}.rt")),
+            _ => continue,
+        };
+        let names = names.iter().filter(|word| !["{", "}", ","].contains(word));
+        all.extend(names.map(|name| (name.to_string(), place.clone())));
+    }
+    all
 }
 
 impl Sources {

@@ -25,13 +25,14 @@ pub fn items(tokens: &[String]) -> Result<(Vec<Struct>, Vec<Function>), String> 
     let mut attributes = Vec::new();
     while !reader.is_empty() {
         if reader.take(&["#"]) {
+            reader.take(&["!"]);
             attributes.push(reader.within()?.concat());
         } else if reader.take(&["pub", "struct"]) {
             let laid_out = attributes.iter().any(|one| one == "repr(C)");
             structs.push(read_struct(&mut reader, laid_out)?);
             attributes.clear();
         } else if reader.take(&["pub", "extern", "\"C\"", "fn"]) {
-            if attributes.iter().any(|one| one == "no_mangle") {
+            if attributes.iter().any(|one| one == "unsafe(no_mangle)") {
                 functions.push(read_function(&mut reader)?);
             }
             attributes.clear();
