@@ -1,8 +1,10 @@
 -- The structs that hosts see, for each answer of document 01: the number of the refusal or 0, then the values.
 -- Assumes nothing.
-use Rattle.std.specs.Prelude.{cond, List, ℕ, ◌-◌, ◌*◌, ◌/◌, ◌%◌, ◌^◌}
+use Rattle.std.specs.Prelude.{cond, List, ℕ, replicate, ◌-◌, ◌*◌, ◌/◌, ◌%◌, ◌^◌}
 use Rattle.order.specs.Answer.{Answer, accepted, refused, refusal_number, unless}
-use Rattle.order.specs.Order.{of_weight}
+use Rattle.order.specs.Order.{Order, of_weight}
+use Rattle.order.specs.Answers.{recorded}
+use Rattle.order.specs.declared.record.OrderRecord.{OrderRecord}
 use Rattle.row.specs.declared.Row.{Row}
 use Rattle.row.specs.Answered.{row}
 use Rattle.crc.specs.Check.{Stripping, message, damaged, Divisibility, divisible, indivisible}
@@ -10,6 +12,7 @@ use Rattle.paths.specs.Part.{paths_to, part_fits}
 use Rattle.answers.specs.declared.HostAnswer.{HostAnswer}
 use Rattle.answers.specs.declared.PartAnswer.{PartAnswer}
 use Rattle.answers.specs.declared.RowAnswer.{RowAnswer}
+use Rattle.answers.specs.declared.Reading.{Reading}
 
 -- a refusal alone; one number; one word, the low half first
 unfoldable pub refusal_answer : ℕ → HostAnswer
@@ -55,6 +58,18 @@ row_with (a, left) = (row_answer a, left)
 -- the answer that a host hands back for its text
 unfoldable pub answer_in : RowAnswer → Answer Row
 answer_in r = unless r.refusal (accepted r.row)
+
+-- an order that was read, as a struct; or the refusal's number, and no order
+unfoldable pub no_order : OrderRecord
+no_order = record { version = 0; n = 0; v = 0; bits = 0; m = 0; d = 0; generators = replicate 4 0 }
+
+unfoldable pub reading : Answer OrderRecord → Reading
+reading (accepted o) = record { refusal = 0; order = o }
+reading (refused k) = record { refusal = k; order = no_order }
+
+-- what reading a record answers
+unfoldable pub reading_of : Answer Order → Reading
+reading_of answer = reading (recorded answer)
 
 -- the part of one weight: its first number in the caller's table, and how many numbers it has, two a path
 unfoldable pub part_answer : List ℕ → ℕ → List ℕ → PartAnswer

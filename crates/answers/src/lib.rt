@@ -1,15 +1,19 @@
 #![tactic(auto)]
 // What hosts are told: each answer of the library as a struct, since an exported function cannot return an enum.
 // What is `pub` here is for the crate above; docs/DECISIONS.md lists it as internal.
-ghost use Rattle.std.specs.Prelude.{◌≡◌, ◌^◌, ◌<◌};
+ghost use Rattle.std.specs.Prelude.{◌≡◌, MatchResult};
+ghost use Rattle.order.specs.Refusals.{number_of, asked, answered_by};
+ghost use Rattle.poly.specs.Word.{number};
 ghost use Rattle.row.specs.Answered.{answered_as};
-ghost use Rattle.answers.specs.Answers.{row_answer, answer_in};
-ghost use Rattle.answers.specs.Model.Cases.{of_appended, of_stripped, of_tested, of_weighed, of_encoded, of_written};
+ghost use Rattle.crc.specs.Answers.{stripping_as, divisibility};
+ghost use Rattle.text.specs.Calls.{handed_back};
+ghost use Rattle.answers.specs.Answers.{refusal_answer, number_answer, word_answer, stripped_answer, tested_answer, row_answer, answer_in, reading};
 
-use code::{Encoded, Weighed};
-use crc::{Appended, Stripped, Tested};
-use row::{Answered, Row};
-use text::Written;
+use crc::Stripping;
+use order::record::OrderRecord;
+use order::refusal::Refusal;
+use poly::word::Word;
+use row::Row;
 
 // What a call answers: the number of the refusal or 0, one number, and one word in two halves. What a call does not use is 0.
 #[repr(C)]
@@ -38,126 +42,147 @@ pub struct PartAnswer {
     pub numbers: u64,
 }
 
+// What reading a record answers: the number of the refusal, or 0 and the order.
+#[repr(C)]
+#[derive(Clone, Copy)]
+pub struct Reading {
+    pub refusal: u64,
+    pub order: OrderRecord,
+}
+
+const NOTHING: HostAnswer = HostAnswer {
+    refusal: 0,
+    value: 0,
+    low: 0,
+    high: 0,
+};
+
+// A number alone.
+impl From<u64> for HostAnswer {
+    ghost from_gives = { λ value answer. answer ≡ number_answer value };
+
+    fn from(value: u64) -> HostAnswer {
+        HostAnswer { value, ..NOTHING }
+    }
+}
+
 // A word in its halves.
-fn word_answer(low: u64, high: u64) -> HostAnswer
-    ensures { result ≡ record { refusal = 0; value = 0; low = low; high = high } }
-{
-    HostAnswer {
-        refusal: 0,
-        value: 0,
-        low,
-        high,
+impl From<Word> for HostAnswer {
+    ghost from_gives = { λ word answer. answer ≡ word_answer (number word) };
+
+    fn from(word: Word) -> HostAnswer {
+        HostAnswer {
+            low: word.low,
+            high: word.high,
+            ..NOTHING
+        }
     }
 }
 
-// A refusal, or a number.
-fn number_answer(refusal: u64, value: u64) -> HostAnswer
-    ensures { result ≡ record { refusal = refusal; value = value; low = 0; high = 0 } }
-{
-    HostAnswer {
-        refusal,
-        value,
-        low: 0,
-        high: 0,
+// The message, or the nonzero remainder as the number.
+impl From<Stripping> for HostAnswer {
+    ghost from_gives = { λ stripping answer. answer ≡ stripped_answer (stripping_as stripping) };
+
+    fn from(stripping: Stripping) -> HostAnswer {
+        match stripping {
+            Stripping::Message(message) => HostAnswer::from(message),
+            Stripping::Damaged(remainder) => HostAnswer::from(remainder),
+        }
     }
 }
 
-pub fn appended(a: Appended) -> HostAnswer
-    ensures { (result ≡ of_appended a) × (result.low < 2 ^ 64) }
-{
-    match a {
-        Appended::Whole(w) => word_answer(w.low, w.high),
-        Appended::Refused(k) => number_answer(k, 0),
+// Whether the polynomial divides a word: 1, or 0.
+impl From<bool> for HostAnswer {
+    ghost from_gives = { λ divisible answer. answer ≡ tested_answer (divisibility divisible) };
+
+    fn from(divisible: bool) -> HostAnswer {
+        HostAnswer::from(u64::from(divisible))
     }
 }
 
-pub fn stripped(a: Stripped) -> HostAnswer
-    ensures { (result ≡ of_stripped a) × (result.low < 2 ^ 64) }
-{
-    match a {
-        Stripped::Message(w) => word_answer(w.low, w.high),
-        Stripped::Damaged(r) => number_answer(0, r),
-        Stripped::Refused(k) => number_answer(k, 0),
+// The number of a refusal.
+impl From<Refusal> for HostAnswer {
+    ghost from_gives = { λ refusal answer. answer ≡ refusal_answer (number_of refusal) };
+
+    fn from(refusal: Refusal) -> HostAnswer {
+        HostAnswer {
+            refusal: u64::from(refusal),
+            ..NOTHING
+        }
     }
 }
 
-pub fn tested(a: Tested) -> HostAnswer
-    ensures { result ≡ of_tested a }
-{
-    match a {
-        Tested::Divisible => number_answer(0, 1),
-        Tested::Indivisible => number_answer(0, 0),
-        Tested::Refused(k) => number_answer(k, 0),
+// The value of what is accepted, or the refusal.
+impl<T: Into<HostAnswer>> From<Result<T, Refusal>> for HostAnswer {
+    ghost from_gives = { λ answered answer. MatchResult answered (λ value. T.converts value answer) (λ refusal. answer ≡ refusal_answer (number_of refusal)) };
+
+    fn from(answered: Result<T, Refusal>) -> HostAnswer {
+        match answered {
+            Ok(value) => value.into(),
+            Err(refusal) => HostAnswer::from(refusal),
+        }
     }
 }
 
-pub fn weighed(a: Weighed) -> HostAnswer
-    ensures { result ≡ of_weighed a }
+// The number of the refusal, or 0.
+pub fn refusal_number(answered: Result<(), Refusal>) -> u64
+    ensures { result ≡ asked answered }
 {
-    match a {
-        Weighed::Weight(w) => number_answer(0, w),
-        Weighed::Refused(k) => number_answer(k, 0),
+    match answered {
+        Ok(()) => 0,
+        Err(refusal) => u64::from(refusal),
     }
 }
 
-pub fn encoded(a: Encoded) -> u64
-    ensures { result ≡ of_encoded a }
-{
-    match a {
-        Encoded::Done => 0,
-        Encoded::Refused(k) => k,
-    }
-}
+impl From<Result<Row, Refusal>> for RowAnswer {
+    ghost from_gives = { λ answered answer. answer ≡ row_answer (answered_as answered) };
 
-fn row_answer(refusal: u64, row: Row) -> RowAnswer
-    ensures { result ≡ record { refusal = refusal; row = row } }
-{
-    RowAnswer { refusal, row }
-}
-
-pub fn answered(a: Answered) -> RowAnswer
-    ensures { result ≡ row_answer (answered_as a) }
-{
-    match a {
-        Answered::Row(row) => row_answer(0, row),
-        Answered::Refused(k) => row_answer(
-            k,
-            Row {
-                events: 0,
-                paths: 0,
-                polynomial: 0,
-                shared: 0,
+    fn from(answered: Result<Row, Refusal>) -> RowAnswer {
+        match answered {
+            Ok(row) => RowAnswer { refusal: 0, row },
+            Err(refusal) => RowAnswer {
+                refusal: u64::from(refusal),
+                row: Row {
+                    events: 0,
+                    paths: 0,
+                    polynomial: 0,
+                    shared: 0,
+                },
             },
-        ),
+        }
     }
 }
 
-// The answer that a host hands back.
-pub fn answer_of(a: RowAnswer) -> Answered
-    ensures { answered_as result ≡ answer_in a }
-{
-    if a.refusal != 0 {
-        return Answered::Refused(a.refusal);
-    }
-    let row = a.row;
-    Answered::Row(row)
-}
+// The answer that a host hands back: its refusal may be any number.
+impl From<RowAnswer> for Result<Row, u64> {
+    ghost from_gives = { λ answer answered. handed_back answered ≡ answer_in answer };
 
-pub fn part_answer(refusal: u64, start: u64, numbers: u64) -> PartAnswer
-    ensures { result ≡ record { refusal = refusal; start = start; numbers = numbers } }
-{
-    PartAnswer {
-        refusal,
-        start,
-        numbers,
+    fn from(answer: RowAnswer) -> Result<Row, u64> {
+        match answer.refusal {
+            0 => Ok(answer.row),
+            refusal => Err(refusal),
+        }
     }
 }
 
-pub fn written(a: Written) -> HostAnswer
-    ensures { result ≡ of_written a }
-{
-    match a {
-        Written::Bytes(n) => number_answer(0, n),
-        Written::Refused(k) => number_answer(k, 0),
+impl From<Result<OrderRecord, Refusal>> for Reading {
+    ghost from_gives = { λ answered answer. answer ≡ reading (answered_by (λ order. order) answered) };
+
+    fn from(answered: Result<OrderRecord, Refusal>) -> Reading {
+        match answered {
+            Ok(order) => Reading { refusal: 0, order },
+            Err(reason) => Reading {
+                refusal: u64::from(reason),
+                order: OrderRecord {
+                    version: 0,
+                    n: 0,
+                    v: 0,
+                    bits: 0,
+                    m: 0,
+                    d: 0,
+                    generators: [0; 4],
+                },
+            },
+        }
     }
 }

@@ -1,6 +1,6 @@
 -- What each step leaves as it was: the length of the work area, and every table that it does not store to. And that sums stay small.
 -- Assumes nothing.
-use Prim.Native.Nat.{ℕ, zero, suc, ◌+◌, ◌^◌, ◌≤◌, ◌<◌, max}
+use Prim.Native.Nat.{ℕ, zero, suc, ◌+◌, ◌≤◌, ◌<◌, max}
 use native.Mathlib.Omega.{arith}
 use mathlib.Core.Path.{◌≡◌, ◌∙◌}
 use mathlib.Core.Logic.{inl, inr}
@@ -10,7 +10,7 @@ use Rattle.events.specs.declared.Event.{Event}
 use Rattle.events.specs.Events.{no_event}
 use Rattle.code.specs.Model.Steps.{most_steps}
 use Rattle.bounds.specs.Model.Places.{length_count, state_count, too_heavy, first_place, state_end_place, least_place, length_end_place, start_place, fill_place, bits_place, end_place, Region, firsts, state_ends, leasts, length_ends, starts, fills, bits_cell, end_cell, wholes}
-use Rattle.bounds.specs.Model.Tables.{first_of, least_at, fill_at, bits_at, whole_at, noted, surveyed, reset_from, opened, carried, least_sum, filled_from, filled, indexed, closed, Fits, Small}
+use Rattle.bounds.specs.Model.Tables.{first_of, bits_at, whole_at, noted, surveyed, reset_from, opened, carried, least_sum, filled_from, filled, indexed, closed, Fits, Small}
 use Rattle.bounds.proofs.Regions.{Keeps, keeps_all, keeps_then, keeps_set, keeps_also, keeps_within, kept}
 
 -- ---- noting events
@@ -139,10 +139,6 @@ pub least_sum_small : (work : List ℕ) (k l : ℕ) → least_sum work k l ≤ t
 unfolding least_sum
 least_sum_small work k zero = omega arith
 least_sum_small work k (suc l) = let rest = least_sum_small work k l in omega arith
-
--- what the code adds fits
-pub sum_small : (work : List ℕ) (l k : ℕ) → l ≤ most_steps → k ≤ most_steps → Small work → least_at work l + fill_at work k < 2 ^ 64
-sum_small work l k h g ok = let a = ok.least_small l h in let b = ok.fill_small k g in omega arith
 
 -- a least weight of some number of steps is stored
 pub small_fill : (work : List ℕ) (k x : ℕ) → k ≤ most_steps → x ≤ too_heavy → Small work → Small (set work (fill_place + k) x)

@@ -4,12 +4,11 @@ use Prim.Native.Nat.{ℕ, zero, suc, ◌+◌, ◌-◌, ◌≤◌, ◌<◌, min}
 use native.Mathlib.Decide.{ℕ_discrete}
 use native.Mathlib.Omega.{arith}
 use mathlib.Core.Path.{◌≡◌, refl, sym, ap, ◌∙◌, subst}
-use mathlib.Core.Bool.{Bool, true, false, not, cond, ◌&&◌}
-use mathlib.Core.Logic.{◌≢◌}
+use mathlib.Core.Bool.{Bool, true, false, cond, ◌&&◌}
 use mathlib.Core.List.{List}
 use lib.Dec.{T, eqb, eqb→eq}
 use Rattle.lists.proofs.Tests.{T_and}
-use Rattle.lists.proofs.Choices.{eqb_passes, eqb_fails, cond_true, cond_false}
+use Rattle.lists.proofs.Choices.{eqb_passes}
 use Rattle.events.specs.declared.Event.{Event}
 use Rattle.bounds.specs.Model.Places.{length_count, too_heavy}
 use Rattle.bounds.specs.Model.Tables.{least_at, start_at, is_zero_loop, lightest, light_of}
@@ -20,10 +19,6 @@ and_rest : (a b : Bool) → T a → a && b ≡ b
 and_rest true b t = refl
 and_rest false b t = absurd t
 
-and_none : (a b : Bool) → T (not a) → a && b ≡ false
-and_none true b t = absurd t
-and_none false b t = refl
-
 module _ (e : Event) where
   pub loop-high : e.length ≡ 1 → e.weight ≡ 0 → e.low ≡ 0 → eqb e.high 0 ≡ is_zero_loop e
   unfolding is_zero_loop
@@ -31,23 +26,6 @@ module _ (e : Event) where
       sym (and_rest (eqb e.length 1) (eqb e.weight 0 && (eqb e.low 0 && eqb e.high 0)) (eqb_passes e.length 1 l)
       ∙ and_rest (eqb e.weight 0) (eqb e.low 0 && eqb e.high 0) (eqb_passes e.weight 0 w)
       ∙ and_rest (eqb e.low 0) (eqb e.high 0) (eqb_passes e.low 0 k))
-
-  pub loop-low : e.length ≡ 1 → e.weight ≡ 0 → e.low ≢ 0 → false ≡ is_zero_loop e
-  unfolding is_zero_loop
-  loop-low l w k =
-      sym (and_rest (eqb e.length 1) (eqb e.weight 0 && (eqb e.low 0 && eqb e.high 0)) (eqb_passes e.length 1 l)
-      ∙ and_rest (eqb e.weight 0) (eqb e.low 0 && eqb e.high 0) (eqb_passes e.weight 0 w)
-      ∙ and_none (eqb e.low 0) (eqb e.high 0) (eqb_fails e.low 0 k))
-
-  pub loop-weight : e.length ≡ 1 → e.weight ≢ 0 → false ≡ is_zero_loop e
-  unfolding is_zero_loop
-  loop-weight l w =
-      sym (and_rest (eqb e.length 1) (eqb e.weight 0 && (eqb e.low 0 && eqb e.high 0)) (eqb_passes e.length 1 l)
-      ∙ and_none (eqb e.weight 0) (eqb e.low 0 && eqb e.high 0) (eqb_fails e.weight 0 w))
-
-  pub loop-length : e.length ≢ 1 → false ≡ is_zero_loop e
-  unfolding is_zero_loop
-  loop-length l = sym (and_none (eqb e.length 1) (eqb e.weight 0 && (eqb e.low 0 && eqb e.high 0)) (eqb_fails e.length 1 l))
 
   -- what it says
   pub record ZeroLoop : Type 0 where
@@ -100,31 +78,9 @@ lightest_again work l least r h e is =
     next : suc (l - 2) ≡ l + 1 - 2
     next = omega arith
 
-pub lightest_end : (work : List ℕ) (l least : ℕ) → l ≡ length_count → least ≡ lightest work (l - 2) → least ≡ lightest work (length_count - 2)
-lightest_end work l least h e = e ∙ ap (λ (x : ℕ). lightest work (x - 2)) h
-
 -- ---- what the code tells of them
 
 module _ (work : List ℕ) (e : Event) (from : ℕ) where
-  pub light_told : {b : Bool} → b ≡ is_zero_loop e → b ≡ true → start_at work 2 ≡ from + 1 → lightest work (length_count - 2) ≡ light_of work e from
-  unfolding light_of
-  light_told is so s =
-      sym (cond_true (is_zero_loop e && eqb (start_at work 2) (from + 1)) (lightest work (length_count - 2)) 0
-      ((T_and (is_zero_loop e) (eqb (start_at work 2) (from + 1))).1 (subst T (sym so ∙ is) tt, eqb_passes (start_at work 2) (from + 1) s)))
-
-  pub light_two : start_at work 2 ≢ from + 1 → 0 ≡ light_of work e from
-  unfolding light_of
-  light_two s = sym (cond_false (is_zero_loop e && eqb (start_at work 2) (from + 1)) (lightest work (length_count - 2)) 0 (none (is_zero_loop e)))
-    where
-      none : (b : Bool) → T (not (b && eqb (start_at work 2) (from + 1)))
-      none true = eqb_fails (start_at work 2) (from + 1) s
-      none false = tt
-
-  pub light_other : {b : Bool} → b ≡ is_zero_loop e → b ≡ false → 0 ≡ light_of work e from
-  unfolding light_of
-  light_other is not_so =
-      sym (ap (λ (b : Bool). cond (b && eqb (start_at work 2) (from + 1)) (lightest work (length_count - 2)) 0) (sym is ∙ not_so))
-
   -- where it tells something
   pub light_means : 1 ≤ light_of work e from → ZeroLoop e × ((start_at work 2 ≡ from + 1) × (light_of work e from ≡ lightest work (length_count - 2)))
   unfolding light_of

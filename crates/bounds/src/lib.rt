@@ -1,12 +1,14 @@
 #![tactic(auto)]
 // The tables that tell which events are worth joining to a chain: where each state's and each length's events stand, and the least weights of an
 // event of each length and of a chain of each number of steps. They are kept in the work area; specs/Model/Places.antt says where.
-ghost use Rattle.std.specs.Prelude.{◌≡◌, ◌+◌, ◌-◌, ◌≤◌, ◌<◌, min, max, length, set, cond, eqb};
+ghost use Rattle.std.specs.Prelude.{◌≡◌, ◌+◌, ◌-◌, ◌≤◌, ◌<◌, length, set, cond, eqb};
 ghost use Rattle.code.specs.Model.Steps.{most_steps};
+ghost use Rattle.bounds.specs.declared.Joining.TheVariants.{Skipped, Complete};
 ghost use Rattle.bounds.specs.Model.Places.{state_count, length_count, light_place, area_size};
-ghost use Rattle.bounds.specs.Model.Tables.{first_of, noted, opened, carried, least_sum, filled, indexed, closed, is_zero_loop, lightest, light_of, whole_at, whole_kept, next_length, beginning, following, complete, skipped, decided, Fits, Small, ToWeigh, ToLook, ToFollow, ToDecide};
+ghost use Rattle.bounds.specs.Model.Tables.{first_of, noted, opened, carried, least_sum, filled, indexed, closed, is_zero_loop, lightest, light_of, whole_at, whole_kept, next_length, beginning, following, decided, Fits, Small, ToWeigh, ToLook, ToFollow, ToDecide};
 
 use events::Event;
+use poly::word::Word;
 
 // ---- places of the work area, each where a table begins; specs/Model/Places.antt says what stands there
 
@@ -40,23 +42,22 @@ const TOO_HEAVY: u64 = 255;
 
 // ---- chains
 
-// A chain begun: the length of its first event (0 before there is one), the steps and the weight that are left to it, and the inputs so far in two
-// halves, low half first.
+// A chain begun: the length of its first event (0 before there is one), the steps and the weight that are left to it, and the inputs so far.
 #[derive(Clone, Copy)]
 pub struct Chain {
     pub first: u64,
     pub steps: u64,
     pub budget: u64,
-    pub low: u64,
-    pub high: u64,
+    pub inputs: Word,
 }
 
 // What an event comes to: it is passed over, it completes a chain, or it is joined and more follow.
-pub const SKIPPED: u64 = 0;
-
-pub const COMPLETE: u64 = 1;
-
-pub const CONTINUED: u64 = 2;
+#[derive(Clone, Copy, PartialEq, Eq)]
+pub enum Joining {
+    Skipped,
+    Complete,
+    Continued,
+}
 
 // ---- noting events
 
@@ -70,26 +71,7 @@ pub fn note(work: &mut [u64], e: Event, after: usize)
     let least = LEAST_AT + e.length as usize;
     work[state] = after as u64;
     work[last] = after as u64;
-    let w = smaller(e.weight, work[least]);
-    work[least] = w;
-}
-
-fn smaller(a: u64, b: u64) -> u64
-    ensures { result ≡ min a b }
-{
-    if a < b {
-        return a;
-    }
-    b
-}
-
-fn larger(a: u64, b: u64) -> u64
-    ensures { result ≡ max a b }
-{
-    if a < b {
-        return b;
-    }
-    a
+    work[least] = e.weight.min(work[least]);
 }
 
 // The tables of lengths are made ready for the events of one state, which end before place `end`.
@@ -98,11 +80,9 @@ pub fn open_state(work: &mut [u64], end: usize)
     ensures { work.new ≡ opened end work.old }
 {
     work[END_AT] = end as u64;
-    let mut l = 0;
-    while l < LENGTHS {
+    for l in 0..LENGTHS {
         work[LEAST_AT + l] = TOO_HEAVY;
         work[LENGTH_END_AT + l] = 0;
-        l += 1;
     }
 }
 
@@ -112,12 +92,10 @@ fn carry(work: &mut [u64], ends: usize, starts: usize, n: usize, from: usize)
     ensures { work.new ≡ carried ends starts n from work.old }
 {
     let mut at = from as u64;
-    let mut j = 0;
-    while j < n {
+    for j in 0..n {
         let end = work[ends + j];
         work[starts + j] = at;
-        at = larger(at, end);
-        j += 1;
+        at = at.max(end);
     }
     work[starts + n] = at;
 }
@@ -128,12 +106,10 @@ fn least_sum(work: &[u64], k: u64) -> u64
     ensures { result ≡ least_sum work.now k k }
 {
     let mut least = TOO_HEAVY;
-    let mut l = 1;
-    while l <= k {
+    for l in 1..k + 1 {
         let event = LEAST_AT + l as usize;
         let rest = FILL_AT + (k - l) as usize;
-        least = smaller(least, work[event] + work[rest]);
-        l += 1;
+        least = least.min(work[event] + work[rest]);
     }
     least
 }
@@ -145,11 +121,9 @@ fn fill(work: &mut [u64])
 {
     work[FILL_AT] = 0;
     let bits = work[BITS_AT];
-    let mut k = 1;
-    while k <= bits {
+    for k in 1..bits + 1 {
         let w = least_sum(work, k);
         work[FILL_AT + k as usize] = w;
-        k += 1;
     }
 }
 
@@ -175,14 +149,7 @@ pub fn close_state(work: &mut [u64], from: usize)
 fn is_zero_loop(e: Event) -> bool
     ensures { result ≡ is_zero_loop e }
 {
-    if e.length == 1 {
-        if e.weight == 0 {
-            if e.low == 0 {
-                return e.high == 0;
-            }
-        }
-    }
-    false
+    e.length == 1 && e.weight == 0 && e.low == 0 && e.high == 0
 }
 
 // The least weight of an event of two steps or more.
@@ -191,10 +158,8 @@ fn lightest(work: &[u64]) -> u64
     ensures { result ≡ lightest work.now (length_count - 2) }
 {
     let mut least = TOO_HEAVY;
-    let mut l = 2;
-    while l < LENGTHS {
-        least = smaller(least, work[LEAST_AT + l]);
-        l += 1;
+    for l in 2..LENGTHS {
+        least = least.min(work[LEAST_AT + l]);
     }
     least
 }
@@ -203,10 +168,8 @@ fn light_of(work: &[u64], e: Event, from: usize) -> u64
     requires { ToWeigh work.now from }
     ensures { result ≡ light_of work.now e from }
 {
-    if is_zero_loop(e) {
-        if work[START_AT + 2] as usize == from + 1 {
-            return lightest(work);
-        }
+    if is_zero_loop(e) && work[START_AT + 2] as usize == from + 1 {
+        return lightest(work);
     }
     0
 }
@@ -259,14 +222,12 @@ fn next_length(work: &[u64], left: u64, budget: u64, l: u64) -> usize
     requires { ToLook work.now left l }
     ensures { result ≡ next_length work.now left budget l }
 {
-    let mut k = l;
-    while k <= left {
+    for k in l..left + 1 {
         let event = LEAST_AT + k as usize;
         let rest = FILL_AT + (left - k) as usize;
         if work[event] + work[rest] <= budget {
             return work[START_AT + k as usize] as usize;
         }
-        k += 1;
     }
     work[END_AT] as usize
 }
@@ -297,25 +258,25 @@ pub fn follow(work: &[u64], at: usize, room: usize, begun: Chain, l: u64, k: usi
 }
 
 // What the last event comes to.
-fn last(begun: Chain, e: Event) -> u64
-    ensures { result ≡ cond (eqb e.weight begun.budget) complete skipped }
+fn last(begun: Chain, e: Event) -> Joining
+    ensures { result ≡ cond (eqb e.weight begun.budget) Complete Skipped }
 {
     if e.weight == begun.budget {
-        return COMPLETE;
+        return Joining::Complete;
     }
-    SKIPPED
+    Joining::Skipped
 }
 
 // What event e comes to.
-pub fn decide(work: &[u64], begun: Chain, e: Event) -> u64
+pub fn decide(work: &[u64], begun: Chain, e: Event) -> Joining
     requires { ToDecide work.now begun e }
     ensures { result ≡ decided work.now begun e }
 {
     if begun.steps < e.length {
-        return SKIPPED;
+        return Joining::Skipped;
     }
     if begun.budget < e.weight {
-        return SKIPPED;
+        return Joining::Skipped;
     }
     if e.length == begun.steps {
         return last(begun, e);
@@ -324,7 +285,7 @@ pub fn decide(work: &[u64], begun: Chain, e: Event) -> u64
         return last(begun, e);
     }
     if e.weight + work[FILL_AT + (begun.steps - e.length) as usize] <= begun.budget {
-        return CONTINUED;
+        return Joining::Continued;
     }
-    SKIPPED
+    Joining::Skipped
 }

@@ -11,22 +11,20 @@ use lib.ListN.{length}
 use Rattle.lists.proofs.Tests.{both}
 use Rattle.poly.specs.Poly.{bit}
 use Rattle.poly.proofs.Bits.{bit-first}
-use Rattle.order.specs.Questions.{first_no, longest_word, check_polynomial, work_size}
-use Rattle.order.specs.Order.{Order, with_length, order_questions}
-use Rattle.order.specs.Answers.{order_in}
+use Rattle.order.specs.Questions.{first_no, check_polynomial, work_size}
+use Rattle.order.specs.Order.{Order, with_length}
 use Rattle.order.specs.Model.Accepted.{Accepted, AcceptedAs, AcceptedDegree}
 use Rattle.order.proofs.Lengths.{no_longer_with, accepted_longer}
 use Rattle.order.proofs.FirstNo.{asked, none_in_parts}
 use Rattle.order.proofs.Asked.{numbered_order, order_shaped, accepted_as, room-told}
-use Rattle.lengths.specs.declared.Shorter.{Shorter}
 use Rattle.jobs.specs.declared.Job.{Job}
 use Rattle.jobs.specs.declared.Job.TheVariants as J
 use Rattle.jobs.specs.declared.Plan.{Plan}
-use Rattle.jobs.specs.Model.Steps.{row_order, ToList, ToChooseFor, JobAsks, ToMake}
+use Rattle.jobs.specs.Model.Steps.{row_order, ToChooseFor, JobAsks, ToMake}
 use Rattle.calls.specs.Calls.{Call, order_of_row, job_questions, questions}
 use Rattle.calls.specs.Model.Plans.{call_in, DegreeFor, Sound}
 
-module _ (o : Order) (accepted : Accepted o) (s : Shorter) (plain undetected work : List ℕ) where
+module _ (o : Order) (accepted : Accepted o) (Ns : List ℕ) (plain undetected work : List ℕ) where
   abbrev nc : ℕ
   nc = length plain
 
@@ -38,7 +36,7 @@ module _ (o : Order) (accepted : Accepted o) (s : Shorter) (plain undetected wor
 
   -- the lists have room, by the job
   abbrev Rooms : Job → Type 0
-  Rooms job = JobAsks job s o plain undetected × (work_size ≤ nw)
+  Rooms job = JobAsks job Ns o plain undetected × (work_size ≤ nw)
 
   pub chosen_rooms : AcceptedDegree o → first_no (job_questions J.Choose o.m (o.d - 1) nc nu nw) ≡ 0 → ToChooseFor o plain undetected × (work_size ≤ nw)
   unfolding job_questions
@@ -69,7 +67,7 @@ to_make plan plain undetected work s none =
     let shape = order_shaped c.takes (order_of_row c) parts.0 in
     let lengths = s.no_longer (le_trans shape.some_memory shape.long_enough) shape.at_most in
     let accepted : Accepted (order_of_row c) = record { code = row.code; threshold = row.threshold s.threshold } in
-    let lists = rooms (order_of_row c) accepted plan.shorter plain undetected work c.job c.takes.degree row.degree s.degree parts.1 in
+    let lists = rooms (order_of_row c) accepted plan.shorter.now plain undetected work c.job c.takes.degree row.degree s.degree parts.1 in
     record {
       collected = accepted_longer c.order c.N lengths.0 lengths.1 accepted;
       no_longer = no_longer_with c.order c.N lengths.0;

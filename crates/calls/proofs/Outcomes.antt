@@ -7,13 +7,19 @@ use mathlib.Core.Logic.{◌⊎◌, inl, inr, ⊎_elim}
 use mathlib.Core.List.{List}
 use lib.ListN.{length}
 use Rattle.lists.proofs.Tests.{lt_or_ge}
+use Rattle.order.specs.Questions.{first_no}
 use Rattle.order.specs.Order.{Order}
 use Rattle.order.specs.Answer.{Answer, refused, unless_refused}
+use Rattle.order.specs.Answers.{order_in}
 use Rattle.order.proofs.FirstNo.{leaves_refused, leaves_answered}
 use Rattle.events.specs.Events.{events}
 use Rattle.row.specs.declared.Row.{Row}
 use Rattle.lengths.specs.Model.Noted.{AllFit}
-use Rattle.jobs.specs.Jobs.{SearchTables, cleared_search, unless_too_many}
+use Rattle.jobs.specs.declared.Plan.{Plan}
+use Rattle.jobs.specs.Jobs.{SearchTables, cleared_search, unless_too_many, ran}
+use Rattle.jobs.specs.Model.Steps.{row_order}
+use Rattle.calls.specs.Calls.{questions, call as called}
+use Rattle.calls.specs.Model.Plans.{call_in}
 use Rattle.jobs.proofs.Fits.{fit_or_not, too_many_events, too_many_paths, all_fit}
 
 abbrev pub Outcome : Type 0
@@ -58,3 +64,9 @@ module _ (why : ℕ) (longer : Order) (rows : List Order) (t : SearchTables) (x 
       by : (k : ℕ) → why ≡ k → NoRefusal why longer rows t ⊎ Refuses
       by zero e = then_fits e
       by (suc k) e = inr (why, ap (λ (y : Outcome). y.0) (sym (leaves_refused t fitting why why refl (λ z. absurd (omega (arith, e, z))))))
+
+-- a plan that is run with the number that its questions give is its call
+pub as_called : (plan : Plan) (t : SearchTables) (why : ℕ) → why ≡ first_no (questions (call_in plan) (length t.plain) (length t.undetected) (length t.work)) → (x : Answer Row × SearchTables)
+    → x ≡ unless_refused why t (ran plan.job plan.shorter.now (order_in plan.order) (row_order plan) t) → x ≡ called (call_in plan) t
+unfolding called row_order
+as_called plan t why asked x told = told ∙ ap (λ (k : ℕ). unless_refused k t (ran plan.job plan.shorter.now (order_in plan.order) (row_order plan) t)) asked

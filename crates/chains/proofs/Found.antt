@@ -13,7 +13,7 @@ use mathlib.Core.List.{List, [], ◌∷◌, ◌++◌, flat_map, map, Memᴰ}
 use lib.Arith.{lt_of_le-ne}
 use lib.Dec.{T, leb, eqb, leb→le, ltb→lt, eqb→eq, not_T, nleb→lt}
 use lib.Pow.{split}
-use lib.ListN.{length, get_or}
+use lib.ListN.{get_or}
 use Rattle.lists.specs.Lists.{up_from}
 use Rattle.lists.proofs.Member.{up_from_bounds}
 use Rattle.lists.proofs.Sorted.{Within}
@@ -21,6 +21,7 @@ use Rattle.paths.specs.Chains.{steps, cost}
 use Rattle.lists.proofs.Tests.{T_and, passes_or_fails}
 use Rattle.lists.proofs.Blocks.{flat_map_cong_on, flat_map_map}
 use Rattle.lists.proofs.Choices.{cond_true, cond_false, eqb_differs}
+use Rattle.poly.specs.Word.{number}
 use Rattle.events.specs.declared.Event.{Event}
 use Rattle.events.specs.Events.{ErrorEvent, no_event}
 use Rattle.paths.specs.Model.Joining.{turns, first_or, fits_in, joining, joined}
@@ -28,16 +29,17 @@ use Rattle.paths.proofs.Joined.{first_or_again, joining_more}
 use Rattle.paths.proofs.Pruned.{joined_drops, fill_le_cost}
 use Rattle.paths.proofs.UsedUp.{Calm, used_up, too_light}
 use Rattle.bounds.specs.declared.Chain.{Chain}
-use Rattle.bounds.specs.Model.Tables.{start_at, end_at, bits_at, least_at, fill_at, light_at, skipped, complete, decided}
+use Rattle.bounds.specs.Model.Tables.{start_at, end_at, bits_at, least_at, fill_at, light_at, decided}
 use Rattle.bounds.proofs.ZeroLoops.{zero_loop}
+use Rattle.bounds.specs.declared.Joining.TheVariants.{Skipped, Complete, Continued}
 use Rattle.bounds.proofs.Decided.{fits, whole, spare, ending, spent, ending_parts, not_whole, fit_parts, decided-skipped, decided-complete, decided-continued}
 use Rattle.bounds.proofs.Looked.{Useless}
-use Rattle.chains.specs.Model.Chaining.{inputs_of, word_of, error_event, at_hand, extended, found, found_by, Joinable, Joins, Unfinished}
+use Rattle.chains.specs.Model.Chaining.{word_of, error_event, at_hand, extended, found, found_by, Joinable, Joins, Unfinished}
 
 pub word-extended : (N : ℕ) (begun : Chain) (e : Event)
-    → inputs_of (extended N begun e) ≡ inputs_of begun + word_of e * 2 ^ (N - begun.steps)
+    → number (extended N begun e).inputs ≡ number begun.inputs + word_of e * 2 ^ (N - begun.steps)
 unfolding extended
-word-extended N begun e = split (inputs_of begun + word_of e * 2 ^ (N - begun.steps)) 64
+word-extended N begun e = split (number begun.inputs + word_of e * 2 ^ (N - begun.steps)) 64
 
 module _ {table : List Event} {work : List ℕ} (joins : Joins table work) where
   abbrev N : ℕ
@@ -200,7 +202,7 @@ module _ {table : List Event} {work : List ℕ} (joins : Joins table work) where
     fuel = begun.steps - 1
 
     abbrev longer : ℕ
-    longer = inputs_of begun + word_of e * 2 ^ (N - begun.steps)
+    longer = number begun.inputs + word_of e * 2 ^ (N - begun.steps)
 
     abbrev first'' : ℕ
     first'' = first_or begun.first e.length
@@ -208,27 +210,27 @@ module _ {table : List Event} {work : List ℕ} (joins : Joins table work) where
     by_unfit : T (not (fits work begun e)) → found_by table work begun e ≡ []
     unfolding found_by error_event fits_in
     by_unfit =
-        joining_unfit fuel begun.steps (inputs_of begun) begun.first begun.budget
+        joining_unfit fuel begun.steps (number begun.inputs) begun.first begun.budget
         (error_event e) is.within able.some_step
 
     by_whole : T (fits work begun e) → T (whole work begun e)
         → found_by table work begun e ≡ cond (spent work begun e) (turns N first'' longer) []
     unfolding found_by error_event fits_in
     by_whole =
-        joining_whole fuel begun.steps (inputs_of begun) begun.first begun.budget
+        joining_whole fuel begun.steps (number begun.inputs) begun.first begun.budget
         (error_event e) is.within able.some_step
 
     by_part : T (fits work begun e) → T (not (whole work begun e))
         → found_by table work begun e ≡ joined fuel es N (begun.steps - e.length) longer first'' (begun.budget - e.weight)
     unfolding found_by error_event fits_in
     by_part =
-        joining_part fuel begun.steps (inputs_of begun) begun.first begun.budget
+        joining_part fuel begun.steps (number begun.inputs) begun.first begun.budget
         (error_event e) is.within able.some_step
 
     by_heavy : begun.budget < e.weight + fill_at work (begun.steps - e.length) → found_by table work begun e ≡ []
     unfolding found_by error_event
     by_heavy =
-        not_worth fuel begun.steps (inputs_of begun) begun.first begun.budget
+        not_worth fuel begun.steps (number begun.inputs) begun.first begun.budget
         (error_event e) is.within able.some_step
 
     by_long : begun.steps < e.length → found_by table work begun e ≡ []
@@ -266,7 +268,7 @@ module _ {table : List Event} {work : List ℕ} (joins : Joins table work) where
         ∙ used_up N es (light_at work) (omega arith) (calm (omega arith)) fuel (begun.steps - e.length) longer first'' (omega arith) (omega arith)
         ∙ ap (λ (x : ℕ). turns N x longer) (first_or_again begun.first e.length 1 some)
 
-    pub found_none : decided work begun e ≡ skipped → found_by table work begun e ≡ []
+    pub found_none : decided work begun e ≡ Skipped → found_by table work begun e ≡ []
     found_none d =
         ⊎_elim by_unfit (λ h. ⊎_elim (λ k. ended k.0 k.1) (λ k. by_heavy (nleb→lt _ _ k.1)) h)
         (decided-skipped work begun e d)
@@ -276,8 +278,8 @@ module _ {table : List Event} {work : List ℕ} (joins : Joins table work) where
             ⊎_elim (λ f. ⊎_elim (λ w. by_whole f w ∙ cond_false (spent work begun e) (turns N first'' longer) [] s) (λ p. by_light f p.0 p.1 s)
             (ending_parts work begun e t)) by_unfit (passes_or_fails (fits work begun e))
 
-    pub found_last : decided work begun e ≡ complete
-        → found_by table work begun e ≡ turns N (extended N begun e).first (inputs_of (extended N begun e))
+    pub found_last : decided work begun e ≡ Complete
+        → found_by table work begun e ≡ turns N (extended N begun e).first (number (extended N begun e).inputs)
     unfolding extended
     found_last d =
         let h = decided-complete work begun e d in
@@ -285,11 +287,11 @@ module _ {table : List Event} {work : List ℕ} (joins : Joins table work) where
         (ending_parts work begun e h.1.0)
         ∙ ap (turns N first'') (sym (word-extended N begun e))
 
-    pub found_more : decided work begun e ≢ skipped → decided work begun e ≢ complete
+    pub found_more : decided work begun e ≡ Continued
         → found_by table work begun e ≡ found table work (extended N begun e)
     unfolding found extended
-    found_more n₀ n₁ =
-        let h = decided-continued work begun e n₀ n₁ in
+    found_more d =
+        let h = decided-continued work begun e d in
         let some = able.some_step in
         let inside = is.within in
         let left = is.some_left in
@@ -312,17 +314,17 @@ module _ {table : List Event} {work : List ℕ} (joins : Joins table work) where
   pub found_is_rest : (begun : Chain) → Unfinished N begun → found table work begun ≡ rest_from begun from
   unfolding found rest_from found_by at_hand joined
   found_is_rest begun is =
-      ap (λ (x : ℕ). joined x es N begun.steps (inputs_of begun) begun.first begun.budget)
+      ap (λ (x : ℕ). joined x es N begun.steps (number begun.inputs) begun.first begun.budget)
       (suc_of begun.steps is.some_left) ∙ unrolled (begun.steps - 1)
     where
       suc_of : (n : ℕ) → 1 ≤ n → n ≡ suc (n - 1)
       suc_of n h = omega arith
 
-      unrolled : (fuel : ℕ) → joined (suc fuel) es N begun.steps (inputs_of begun) begun.first begun.budget
-          ≡ flat_map (λ k. joining N (joined fuel es N) begun.steps (inputs_of begun) begun.first begun.budget
+      unrolled : (fuel : ℕ) → joined (suc fuel) es N begun.steps (number begun.inputs) begun.first begun.budget
+          ≡ flat_map (λ k. joining N (joined fuel es N) begun.steps (number begun.inputs) begun.first begun.budget
           (error_event (get_or table k no_event))) (up_from from (to - from))
       unrolled fuel =
-          flat_map_map (joining N (joined fuel es N) begun.steps (inputs_of begun) begun.first begun.budget)
+          flat_map_map (joining N (joined fuel es N) begun.steps (number begun.inputs) begun.first begun.budget)
           (λ k. error_event (get_or table k no_event)) (up_from from (to - from))
 
   pub rest_turn : (begun : Chain) (k : ℕ) → k < to → rest_from begun k ≡ finds begun k ++ rest_from begun (k + 1)

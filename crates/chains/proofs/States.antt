@@ -218,11 +218,6 @@ module _ {table : List Event} {work : List ℕ} (ix : Indexed table work) (i : �
   at_hand_between =
       ap₂ (λ (x y : ℕ). map (λ k. error_event (get_or table k no_event)) (up_from x (y - x))) start_at_state end_at_state
 
-  pub indexed_at_state : Indexed table (at_state table i work)
-  indexed_at_state =
-      indexed_as (at_state table i work) length-at_state bits_at_state first-at_state state_ready.small.fill_small
-      (λ j h c m s. subst (λ (x : ℕ). x ≤ cost c) (sym (whole_at_state j h)) (ix.wholes j h c m s))
-
   -- what is kept of it
   kept_whole : (j : ℕ) → j < state_count → (c : List ErrorEvent) → Within c (events_between table (first_of work j) (first_of work (j + 1)))
       → steps c ≡ bits_at work → whole_at (whole_kept i (at_state table i work)) j ≤ cost c

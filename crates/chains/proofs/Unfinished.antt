@@ -5,11 +5,12 @@ use native.Mathlib.Nat.{mul-le-mul_right, suc-mul, lt_of_lt_of_le}
 use native.Mathlib.Omega.{arith}
 use mathlib.Core.Path.{◌≡◌, sym, ap, subst}
 use lib.Pow.{pow-add, pow_mono}
+use Rattle.poly.specs.Word.{number}
 use Rattle.events.specs.declared.Event.{Event}
 use Rattle.paths.specs.Model.Joining.{first_or}
 use Rattle.rotations.specs.Model.Put.{ShortToTurn}
 use Rattle.bounds.specs.declared.Chain.{Chain}
-use Rattle.chains.specs.Model.Chaining.{most_weight, inputs_of, word_of, extended, unbegun, Joinable, Unfinished}
+use Rattle.chains.specs.Model.Chaining.{most_weight, word_of, extended, unbegun, Joinable, Unfinished}
 use Rattle.chains.proofs.Found.{word-extended}
 
 -- a chain that is not turned stays so
@@ -27,15 +28,15 @@ joint_lt a x p l h g =
 
 module _ (N : ℕ) (begun : Chain) (e : Event) (is : Unfinished N begun) (able : Joinable N e)
     (short : e.length ≤ begun.steps) where
-  word_lt : inputs_of (extended N begun e) < 2 ^ (N - (begun.steps - e.length))
+  word_lt : number (extended N begun e).inputs < 2 ^ (N - (begun.steps - e.length))
   word_lt =
       let inside = is.within in
       let place : e.length + (N - begun.steps) ≡ N - (begun.steps - e.length) = omega arith in
-      let small = joint_lt (inputs_of begun) (word_of e) (N - begun.steps) e.length is.word_small able.input_small in
+      let small = joint_lt (number begun.inputs) (word_of e) (N - begun.steps) e.length is.word_small able.input_small in
       subst (λ (x : ℕ). x < 2 ^ (N - (begun.steps - e.length))) (sym (word-extended N begun e))
-      (subst (λ (x : ℕ). inputs_of begun + word_of e * 2 ^ (N - begun.steps) < 2 ^ x) place small)
+      (subst (λ (x : ℕ). number begun.inputs + word_of e * 2 ^ (N - begun.steps) < 2 ^ x) place small)
 
-  pub whole_word_lt : inputs_of (extended N begun e) < 2 ^ N
+  pub whole_word_lt : number (extended N begun e).inputs < 2 ^ N
   whole_word_lt = lt_of_lt_of_le word_lt (pow_mono {i = N - (begun.steps - e.length)} {j = N} (omega arith))
 
   pub extended_short : ShortToTurn (extended N begun e).first N

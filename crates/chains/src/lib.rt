@@ -2,19 +2,20 @@
 // Chains of events of one state, joined one after another until their lengths sum to the steps of a word (document 01); the rotations of each chain,
 // or the chain as it is where it is not turned, are appended to the path table. The tables of `bounds`, kept in the work area, tell which events are
 // worth joining.
-ghost use Rattle.std.specs.Prelude.{◌≡◌, ◌+◌, ◌-◌, ◌/◌, ◌≤◌, ◌<◌, cond, ltb, length};
+ghost use Rattle.std.specs.Prelude.{◌≡◌, ◌-◌, ◌≤◌, length};
 ghost use Rattle.paths.specs.Model.Joining.{turns, first_or};
+ghost use Rattle.poly.specs.Word.{number};
 ghost use Rattle.bounds.specs.Model.Places.{area_size};
 ghost use Rattle.bounds.specs.Model.Tables.{bits_at, end_at, surveyed, Small, Segment};
 ghost use Rattle.rotations.specs.Model.Put.{puts};
-ghost use Rattle.chains.specs.Model.Chaining.{inputs_of, extended, found, found_by, unbegun, fitting_end, weighed, state_listed, lighter_listed, weight_listed, Noted, ToExtend, ToEmit, ToJoin, ToChain, ToListState, ToListWeight};
+ghost use Rattle.chains.specs.Model.Chaining.{extended, found, found_by, unbegun, fitting_end, weighed, state_listed, lighter_listed, weight_listed, Noted, ToExtend, ToEmit, ToJoin, ToChain, ToListState, ToListWeight};
 
 use bounds::{
-    BITS_AT, COMPLETE, Chain, END_AT, SKIPPED, begin, close_state, decide, first_of, follow,
-    keep_whole, note, open_state, weigh_none, weigh_others, whole_of,
+    BITS_AT, Chain, END_AT, Joining, begin, close_state, decide, first_of, follow, keep_whole,
+    note, open_state, weigh_none, weigh_others, whole_of,
 };
 use events::{Event, event_at};
-use poly::word::make;
+use poly::word::{Word, make};
 use rotations::{join_input, push_turns};
 
 // ---- a chain begun
@@ -35,23 +36,22 @@ fn extend(work: &[u64], begun: Chain, e: Event) -> Chain
     ensures { result ≡ extended (bits_at work.now) begun e }
 {
     let place = work[BITS_AT] - begun.steps;
-    let w = join_input(make(begun.low, begun.high), make(e.low, e.high), place);
+    let inputs = join_input(begun.inputs, make(e.low, e.high), place);
     Chain {
         first: first_or(begun.first, e.length),
         steps: begun.steps - e.length,
         budget: begun.budget - e.weight,
-        low: w.low,
-        high: w.high,
+        inputs,
     }
 }
 
 // The rotations of a chain that is whole.
 fn emit(work: &[u64], paths: &mut [u64], at: usize, whole: Chain) -> usize
     requires { ToEmit work.now paths.old at whole }
-    ensures { (paths.new, result) ≡ puts (turns (bits_at work.now) whole.first (inputs_of whole)) (paths.old, at) }
+    ensures { (paths.new, result) ≡ puts (turns (bits_at work.now) whole.first (number whole.inputs)) (paths.old, at) }
 {
     let bits = work[BITS_AT];
-    push_turns(paths, at, bits, whole.first, make(whole.low, whole.high))
+    push_turns(paths, at, bits, whole.first, whole.inputs)
 }
 
 // A chain that is not begun: all its steps are left. `first` is 0, or 1 where a chain is not turned.
@@ -63,8 +63,7 @@ fn unbegun(work: &[u64], first: u64, w: u64) -> Chain
         first,
         steps: work[BITS_AT],
         budget: w,
-        low: 0,
-        high: 0,
+        inputs: Word { low: 0, high: 0 },
     }
 }
 
@@ -91,15 +90,17 @@ fn join(
     requires { ToJoin events.now work.now paths.old at begun e }
     ensures { (paths.new, result) ≡ puts (found_by events.now work.now begun e) (paths.old, at) }
 {
-    let what = decide(work, begun, e);
-    if what == SKIPPED {
-        return at;
+    match decide(work, begun, e) {
+        Joining::Skipped => at,
+        Joining::Complete => {
+            let whole = extend(work, begun, e);
+            emit(work, paths, at, whole)
+        }
+        Joining::Continued => {
+            let longer = extend(work, begun, e);
+            chain(events, work, paths, at, longer)
+        }
     }
-    let longer = extend(work, begun, e);
-    if what == COMPLETE {
-        return emit(work, paths, at, longer);
-    }
-    chain(events, work, paths, at, longer)
 }
 
 // The words of all chains that begin so are appended at `at`; the position after them.
@@ -131,41 +132,13 @@ fn bits_of(work: &[u64]) -> u64
     work[BITS_AT]
 }
 
-// Place k where event e is longer than `bits` steps; else `end`.
-fn end_by(e: Event, bits: u64, k: usize, end: usize) -> usize
-    ensures { result ≡ cond (ltb bits e.length) k end }
-{
-    if bits < e.length {
-        return k;
-    }
-    end
-}
-
-// The place halfway between two.
-fn halfway(low: usize, high: usize) -> usize
-    requires { low ≤ high }
-    ensures { result ≡ low + (high - low) / 2 }
-{
-    low + (high - low) / 2
-}
-
 // The place of the first event from `from` on that is longer than `bits` steps; `to` where there is none. Events stand by length, so it is found by
 // halving: to read them all would be one more pass over a table that may be large.
 fn fitting_end(events: &[Event], from: usize, to: usize, bits: u64) -> usize
     requires { (to ≤ length events.now) × ((from ≤ to) × Segment events.now from to) }
     ensures { result ≡ fitting_end events.now bits to (to - from) from }
 {
-    let mut low = from;
-    let mut high = to;
-    while low < high {
-        let k = halfway(low, high);
-        let e = event_at(events, k);
-        // where e is too long the place is not after k, else it is
-        let next = end_by(e, bits, low, k + 1);
-        high = end_by(e, bits, k, high);
-        low = next;
-    }
-    low
+    from + events[from..to].partition_point(|e| e.length <= bits)
 }
 
 // The events from place `from` to before place `to` are noted in the tables.
@@ -173,11 +146,9 @@ pub fn survey(events: &[Event], work: &mut [u64], from: usize, to: usize)
     requires { (area_size ≤ length work.old) × Noted events.now from to }
     ensures { work.new ≡ surveyed events.now (to - from) from work.old }
 {
-    let mut k = from;
-    while k < to {
+    for k in from..to {
         let e = event_at(events, k);
         note(work, e, k + 1);
-        k += 1;
     }
 }
 
@@ -256,10 +227,8 @@ pub fn list_weight(
     ensures { (work.new, (paths.new, result)) ≡ weight_listed events.now first w states work.old (paths.old, at) }
 {
     let mut next = at;
-    let mut i = 0;
-    while i < states {
+    for i in 0..states {
         next = list_lighter(events, work, paths, next, i, first, w);
-        i += 1;
     }
     next
 }

@@ -8,10 +8,8 @@ use mathlib.Core.Path.{◌≡◌, sym, ap, ◌∙◌, subst}
 use mathlib.Core.Logic.{◌↔◌}
 use mathlib.Core.List.Memᴰ
 use mathlib.Core.List.{Memᴰ}
-use lib.ListN.{length}
 use Rattle.lists.specs.Lists.{up_from}
 use Rattle.lists.proofs.Member.{up_from_bounds, in_up_from}
-use Rattle.lists.proofs.Lengths.{length-map-up_from}
 use Rattle.lists.proofs.Sorted.{Sorted, up_from-sorted, map-sorted}
 use Rattle.parity.specs.Model.Parity.{Divisor}
 use Rattle.choice.specs.Choice.{candidates}
@@ -89,7 +87,3 @@ pub candidates-sorted : (m : ℕ) → Sorted ◌<◌ (candidates m)
 unfolding candidates
 candidates-sorted m =
     map-sorted ◌<◌ ◌<◌ (λ k. 2 ^ m + 2 * k + 1) (λ k k' h. omega arith) (up_from 0 (2 ^ (m - 1))) (up_from-sorted 0 (2 ^ (m - 1)))
-
-pub length-candidates : (m : ℕ) → length (candidates m) ≡ 2 ^ (m - 1)
-unfolding candidates
-length-candidates m = length-map-up_from (λ k. 2 ^ m + 2 * k + 1) 0 (2 ^ (m - 1))

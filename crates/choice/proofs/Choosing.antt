@@ -50,7 +50,7 @@ module _ (m entries : ℕ) (table plain : List ℕ) where
     pub left_counted : (shared : ℕ) → shared ≡ length (alive_below alive n) → shared ≡ length (left_over m (offered_by m flags) table plain entries)
     left_counted shared e = e ∙ sym (ap length left_is_alive ∙ length-map (alive_below alive n) (λ k. 2 ^ m + 2 * k + 1))
 
-    some_left : (k : ℕ) × Memᴰ k (alive_below alive n)
+    pub some_left : (k : ℕ) × Memᴰ k (alive_below alive n)
     unfolding left_over
     some_left =
         let b = best_nonempty counts (offered_by m flags) (offered_member m flags (some.1, some.2)) in

@@ -9,32 +9,31 @@ use lib.Dec.{T}
 use lib.ListN.{length, get_or, set}
 use Rattle.undetected.specs.Model.Steps.{divided_counts, counted_from}
 use Rattle.undetected.proofs.Counts.{length-divided_counts}
-use Rattle.choice.specs.Choice.{fewer, first_of}
-use Rattle.choice.specs.Model.Steps.{alive_below, laid, dropped, offered_by, left_over, LeftAlive, ToCompare}
+use Rattle.choice.specs.Choice.{fewer}
+use Rattle.choice.specs.Model.Steps.{laid, dropped, offered_by, left_over, LeftAlive, ToCompare}
 use Rattle.choice.proofs.Offered.{up, Up, first_is_up, none_before}
 use Rattle.choice.proofs.Leader.{leader, leader_first, leader_down, leader_worse, leader_better, leader_level, leader_length}
 use Rattle.choice.proofs.Leader.{Alive, alive_begin, alive_down, alive_worse, alive_better, alive_level}
 use Rattle.choice.proofs.Remaining.{counts_of, best_counts, alive_end}
-use Rattle.choice.proofs.Weighed.{Agree, agree_all, laid_itself, laid_at, length-laid, laid_recounted}
+use Rattle.choice.proofs.Weighed.{Agree, agree_all, laid_itself, laid_at, laid_recounted}
 
 -- of those offered, the best counts of the first k candidates over a table
 abbrev pub best_of : ℕ → List Bool → ℕ → List ℕ → List ℕ → ℕ → ℕ → List ℕ
 best_of m offered first table plain entries k = leader (counts_of m (divided_counts m table plain entries)) (up offered) first k
 
 -- the first k candidates have been compared: the best counts stand in the undetected list, and the flags tell who has them
-pub record Met (m entries n : ℕ) (offered : List Bool) (first : ℕ) (table plain before after : List ℕ) (alive : List Bool) (k : ℕ) : Type 0 where
-  pub within : k ≤ n
+pub record Met (m entries : ℕ) (offered : List Bool) (first : ℕ) (table plain before after : List ℕ) (alive : List Bool) (k : ℕ) : Type 0 where
   pub listed : after ≡ laid (best_of m offered first table plain entries k) before
   pub flags : Alive (counts_of m (divided_counts m table plain entries)) (up offered) first k alive
 
 -- of values that are the same
-pub met_same : {m entries n : ℕ} {offered : List Bool} {first : ℕ} {table plain before after after' : List ℕ} {alive alive' : List Bool} {k k' : ℕ}
-    → after' ≡ after → alive' ≡ alive → k' ≡ k
-    → Met m entries n offered first table plain before after alive k → Met m entries n offered first table plain before after' alive' k'
-met_same ea ef ek met = rw (ea, ef, ek) met
+pub met_same : {m entries : ℕ} {offered : List Bool} {first : ℕ} {table plain before after after' : List ℕ} {alive alive' : List Bool} {k : ℕ}
+    → after' ≡ after → alive' ≡ alive
+    → Met m entries offered first table plain before after alive k → Met m entries offered first table plain before after' alive' k
+met_same ea ef met = rw (ea, ef) met
 
-module _ {bits entries m n : ℕ} {offered : List Bool} {first : ℕ} {table plain before : List ℕ}
-    (asked : ToCompare bits entries m n offered first table plain before) where
+module _ {entries m : ℕ} {offered : List Bool} {first : ℕ} {table plain before : List ℕ}
+    (asked : ToCompare entries m offered first table plain before) where
   -- the counts of p, those of candidate k, and the best of the first k
   abbrev counts : ℕ → List ℕ
   counts p = divided_counts m table plain entries p
@@ -59,29 +58,22 @@ module _ {bits entries m n : ℕ} {offered : List Bool} {first : ℕ} {table pla
 
   -- what holds after the first k
   abbrev After : List ℕ → List Bool → ℕ → Type 0
-  After after alive k = Met m entries n offered first table plain before after alive k
+  After after alive k = Met m entries offered first table plain before after alive k
 
   -- the best counts are read from the undetected list
   pub met_limit : {k : ℕ} {after : List ℕ} {alive : List Bool} → After after alive k → (j : ℕ) → j < entries → get_or after j 0 ≡ get_or (best k) j 0
   met_limit {k} met j h = ap (λ (l : List ℕ). get_or l j 0) met.listed ∙ laid_at entries (best k) before (best-length k) room j h
 
-  pub met_length : {k : ℕ} {after : List ℕ} {alive : List Bool} → After after alive k → length after ≡ length before
-  met_length {k} met = ap length met.listed ∙ length-laid entries (best k) before (best-length k) room
-
-  first_among : first ≡ first_of (alive_below offered (2 ^ (m - 1)))
-  first_among = asked.first_up ∙ ap (λ (i : ℕ). first_of (alive_below offered i)) asked.all
-
   pub first_offered : Up offered (2 ^ (m - 1)) first
-  first_offered = first_is_up offered (2 ^ (m - 1)) (asked.choose.some_offered.1, asked.choose.some_offered.2) first_among
+  first_offered = first_is_up offered (2 ^ (m - 1)) (asked.choose.some_offered.1, asked.choose.some_offered.2) asked.first_up
 
   none_earlier : (j : ℕ) → j < first → up offered j ≡ false
-  none_earlier = none_before offered (2 ^ (m - 1)) (asked.choose.some_offered.1, asked.choose.some_offered.2) first_among
+  none_earlier = none_before offered (2 ^ (m - 1)) (asked.choose.some_offered.1, asked.choose.some_offered.2) asked.first_up
 
   pub met_begin : After before offered (first + 1)
   met_begin =
       let begun : mine first ≡ best first = sym (leader_first mine (up offered) first first none_earlier) in
       record {
-        within = omega (arith, asked.all, first_offered.0);
         listed =
             laid_itself entries (best (first + 1)) before (best-length (first + 1))
             (asked.first_counted ∙ begun ∙ sym (leader_level mine (up offered) first first begun));
@@ -90,17 +82,16 @@ module _ {bits entries m n : ℕ} {offered : List Bool} {first : ℕ} {table pla
       }
 
   -- candidate k is not offered
-  pub met_down : {k : ℕ} {after : List ℕ} {alive : List Bool} → k < n → After after alive k → get_or alive k false ≡ false → After after alive (k + 1)
-  met_down {k} {after} {alive} more met e =
+  pub met_down : {k : ℕ} {after : List ℕ} {alive : List Bool} → After after alive k → get_or alive k false ≡ false → After after alive (k + 1)
+  met_down {k} {after} {alive} met e =
       let d : up offered k ≡ false = sym (met.flags.after k (omega arith)) ∙ e in
       record {
-        within = omega arith;
         listed = met.listed ∙ ap (λ (a : List ℕ). laid a before) (sym (leader_down mine (up offered) first k d));
         flags = alive_down mine (up offered) first entries sized k alive met.flags d;
       }
 
   -- candidate k is met
-  module _ {k p : ℕ} {after : List ℕ} {alive : List Bool} (more : k < n) (named : p ≡ 2 ^ m + 2 * k + 1) (met : After after alive k) where
+  module _ {k p : ℕ} {after : List ℕ} {alive : List Bool} (named : p ≡ 2 ^ m + 2 * k + 1) (met : After after alive k) where
     same : counts p ≡ mine k
     same = ap counts named
 
@@ -108,7 +99,6 @@ module _ {bits entries m n : ℕ} {offered : List Bool} {first : ℕ} {table pla
     met_worse t =
         let u = subst (λ (a : List ℕ). T (fewer (best k) a)) same t in
         record {
-          within = omega arith;
           listed = met.listed ∙ ap (λ (a : List ℕ). laid a before) (sym (leader_worse mine (up offered) first k u));
           flags = alive_worse mine (up offered) first entries sized k alive met.flags u;
         }
@@ -120,7 +110,6 @@ module _ {bits entries m n : ℕ} {offered : List Bool} {first : ℕ} {table pla
         let is_up : up offered k ≡ true = sym (met.flags.after k (omega arith)) ∙ offer in
         let u = subst (λ (a : List ℕ). T (fewer a (best k))) same t in
         record {
-          within = omega arith;
           listed =
               el ∙ ap (counted_from m p table plain j entries) met.listed
               ∙ laid_recounted entries (best k) before (best-length k) room m p table plain j h agree
@@ -132,19 +121,17 @@ module _ {bits entries m n : ℕ} {offered : List Bool} {first : ℕ} {table pla
     met_level agree =
         let e : mine k ≡ best k = sym same ∙ agree_all entries (counts p) (best k) (counts_length p) (best-length k) agree in
         record {
-          within = omega arith;
           listed = met.listed ∙ ap (λ (a : List ℕ). laid a before) (sym (leader_level mine (up offered) first k e));
           flags = alive_level mine (up offered) first entries sized k alive met.flags e;
         }
 
-  pub met_end : {k : ℕ} {after : List ℕ} {alive : List Bool} → n ≤ k → After after alive k
+  pub met_end : {k : ℕ} {after : List ℕ} {alive : List Bool} → k ≡ 2 ^ (m - 1) → After after alive k
       → LeftAlive m entries (offered_by m offered) table plain before after alive
   unfolding left_over
-  met_end {k} {after} {alive} h met =
-      let e : k ≡ 2 ^ (m - 1) = omega (arith, asked.all, met.within) in (
-        alive_end m counts offered entries counts_length first first_offered alive
-            (subst (λ (i : ℕ). Alive mine (up offered) first i alive) e met.flags),
-        met.listed
-            ∙ ap (λ (a : List ℕ). laid a before)
-            (ap (leader mine (up offered) first) e ∙ sym (best_counts m counts offered entries counts_length first first_offered)),
-      )
+  met_end {k} {after} {alive} e met = (
+    alive_end m counts offered entries counts_length first first_offered alive
+        (subst (λ (i : ℕ). Alive mine (up offered) first i alive) e met.flags),
+    met.listed
+        ∙ ap (λ (a : List ℕ). laid a before)
+        (ap (leader mine (up offered) first) e ∙ sym (best_counts m counts offered entries counts_length first first_offered)),
+  )

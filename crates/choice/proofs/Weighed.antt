@@ -12,7 +12,7 @@ use mathlib.Core.List.{List, ◌++◌, map, append_assoc, map-append}
 use borrow.Author.Count.{below_more}
 use borrow.Author.Tests.{lt-leb}
 use lib.Dec.{T}
-use lib.ListN.{length, get_or, take, drop, length-append, length-drop, take-append-drop, get_or-append}
+use lib.ListN.{length, get_or, take, drop, take-append-drop, get_or-append}
 use lib.Seq.{ext_get_or, take-append-le, take_at, drop_at, get_or-take, length-take-le}
 use Rattle.lists.specs.Lists.{up_from}
 use Rattle.lists.proofs.Lengths.{get_or-map-up_from, length-map-up_from, up_from-append}
@@ -92,10 +92,6 @@ module _ (entries : ℕ) (a l : List ℕ) (sized : length a ≡ entries) (room :
   unfolding laid
   laid_at j h = get_or-append a (drop (length a) l) 0 j (omega arith)
 
-  pub length-laid : length (laid a l) ≡ length l
-  unfolding laid
-  length-laid = omega (arith, length-append a (drop (length a) l), length-drop (length a) l)
-
   -- counted anew from the first entry that differs on
   pub laid_recounted : (m p : ℕ) (table plain : List ℕ) (j : ℕ) → j ≤ entries → Agree j (divided_counts m table plain entries p) a
       → counted_from m p table plain j entries (laid a l) ≡ laid (divided_counts m table plain entries p) l
@@ -131,18 +127,18 @@ pub record Verdict (j limit found : ℕ) (best mine : List ℕ) : Type 0 where
   pub better : found < limit → T (fewer mine best)
   pub level : limit ≡ found → Agree (j + 1) mine best
 
-module _ {bits entries m p at : ℕ} {table plain rows : List ℕ} (readable : Readable bits entries table plain) (divisor : Divisor m p)
-    (j : ℕ) (made : rows ≡ check_table bits m p) (placed : at ≡ paths_to plain j) where
+module _ {bits entries m p n at : ℕ} {table plain rows : List ℕ} (readable : Readable bits entries table plain) (divisor : Divisor m p)
+    (j : ℕ) (made : (rows ≡ check_table bits m p) × (n ≡ m)) (placed : at ≡ paths_to plain j) where
   -- no more than there are words, so no limit enters
-  even-counted : even_between rows m table at (at + get_or plain j 0) ≡ divided_of m p table plain j
+  even-counted : even_between rows n table at (at + get_or plain j 0) ≡ divided_of m p table plain j
   even-counted =
       let all : ℕ = get_or plain j 0 in
-      let few = even_le rows m table at (at + all) in
-      counted-weight bits entries m p table plain readable divisor rows j at (even_between rows m table at (at + all)) made placed
-      (up_to_within all (even_between rows m table at (at + all)) (omega arith))
+      let few = even_le rows n table at (at + all) in
+      counted-weight bits entries m p table plain readable divisor rows n j at (even_between rows n table at (at + all)) made placed
+      (up_to_within all (even_between rows n table at (at + all)) (omega arith))
 
   pub verdict : {best : List ℕ} {limit found : ℕ} → j < entries → length best ≡ entries → Agree j (divided_counts m table plain entries p) best
-      → limit ≡ get_or best j 0 → found ≡ up_to limit (even_between rows m table at (at + get_or plain j 0))
+      → limit ≡ get_or best j 0 → found ≡ up_to limit (even_between rows n table at (at + get_or plain j 0))
       → Verdict j limit found best (divided_counts m table plain entries p)
   verdict {best} {limit} {found} h sized agree el ef = record {
     worse = λ t. fewer_of_lowest best mine (j, omega arith, λ i l. sym (agree i l), omega (arith, found_more t));

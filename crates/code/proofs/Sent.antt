@@ -16,6 +16,7 @@ use Rattle.lists.proofs.Stores.{sets_append, sets_cleared}
 use Rattle.poly.specs.Poly.{bit}
 use Rattle.poly.specs.Word.{number}
 use Rattle.order.specs.Order.{Order}
+use Rattle.order.specs.Model.Accepted.{AcceptedCode}
 use Rattle.code.specs.Links.{steps_of}
 use Rattle.code.specs.Weight.{codeword}
 use Rattle.code.specs.Trellis.{state_at, tapped, step_output}
@@ -81,19 +82,18 @@ module _ (v N : ℕ) (gs : List ℕ) (u : ℕ) where
     sent_all = flat_map_cong_on sent_at (λ t. map (λ g. bit t (cyclic_output N g u)) gs) (up_from 0 N) (λ t m. sent_at_outputs t (omega (arith, up_from_bounds 0 N m)))
 
 -- after the last step: the codeword of the word, and zeros after it
-pub all_sent : {o : Order} {u : ℕ} {w : Window} (out : List ℕ) → ToEncode o u (length out) → First o u w → (gs : List ℕ) (steps t : ℕ) (o₀ o' : List ℕ)
+pub all_sent : {o : Order} {u : ℕ} {w : Window} (out : List ℕ) → AcceptedCode o → ToEncode o u (length out) → First o u w → (gs : List ℕ) (steps t : ℕ) (o₀ o' : List ℕ)
     → gs ≡ o.generators → steps ≡ steps_of o → t ≡ steps → o₀ ≡ replicate (length out) 0 → o' ≡ sets o₀ 0 (sent w.memory steps gs (number w.rest) t)
     → o' ≡ padded (length out) 0 (codeword o u)
-all_sent {o} {u} out enc first gs steps t o₀ o' eg es et ez e =
-    let word = enc.word in
+all_sent {o} {u} out code enc first gs steps t o₀ o' eg es et ez e =
     let v : ℕ = o.v in
     let T : ℕ = steps_of o in
     let n : ℕ = length o.generators in
-    let fit = fit_of_code o word.code in
+    let fit = fit_of_code o code in
     let fits = subst (λ (k : ℕ). k ≤ length out) (sym (length_sent v T o.generators u T ∙ mul_comm T n)) enc.room in
     rw (et, es, eg, first.memory, first.rest, ez) at e
     ∙ sets_cleared (length out) 0 (sent v T o.generators u T) fits
-    ∙ ap (padded (length out) 0) (sent_all v T o.generators u (memory_fits o word.code) (wide_word o u word.fits) fit ∙ sym (codeword_is_cyclic o u word.fits fit))
+    ∙ ap (padded (length out) 0) (sent_all v T o.generators u (memory_fits o code) (wide_word o u enc.fits) fit ∙ sym (codeword_is_cyclic o u enc.fits fit))
 
 pub stored-length : (o o' : List ℕ) (at : ℕ) (vs : List ℕ) (n : ℕ) → o' ≡ sets o at vs → length o ≡ n → length o' ≡ n
 stored-length o o' at vs n e h = ap length e ∙ length-sets o at vs ∙ h
@@ -108,6 +108,3 @@ step_room {o} {u} {size} enc gs steps t at eg es h e =
     let b : suc t * n ≤ steps * n = mul-le-mul_right n h in
     let c : steps * n ≡ n * steps = mul_comm steps n in
     omega arith
-
-pub at_more : (n t at : ℕ) → at ≡ t * n → at + n ≡ (t + 1) * n
-at_more n t at e = ap (λ (x : ℕ). x + n) e ∙ sym (ap (λ (x : ℕ). x * n) (add-one t) ∙ suc-mul t n)

@@ -2,7 +2,7 @@
 -- Assumes nothing.
 use mathlib.Core.Path.{◌≡◌, refl, sym, ap, ap₂, ◌∙◌}
 use mathlib.Core.List.{List, [], ◌∷◌}
-use Prim.Native.Nat.{ℕ, ◌+◌, ◌*◌, ◌/◌, ◌%◌, ◌≤◌, ◌<◌, zero-le}
+use Prim.Native.Nat.{ℕ, ◌+◌, ◌*◌, ◌/◌, ◌%◌, ◌^◌, ◌≤◌, ◌<◌, zero-le}
 use native.Mathlib.Numerals.{add-one}
 use native.Mathlib.Omega.{arith}
 use lib.Bits.{bit_and}
@@ -15,10 +15,10 @@ use Rattle.poly.specs.Poly.{bit}
 use Rattle.poly.specs.Word.{number}
 use Rattle.poly.proofs.Sum.{mod2_lt, bit_lt, half_push, mod2_push}
 use Rattle.order.specs.Order.{Order}
+use Rattle.order.specs.Model.Accepted.{AcceptedCode}
 use Rattle.code.specs.Links.{steps_of}
 use Rattle.code.specs.Weight.{weight}
 use Rattle.code.specs.Trellis.{state_at, tapped, step_output, step_weight}
-use Rattle.code.specs.Model.Steps.{CodeWord}
 use Rattle.code.specs.Model.Window.{First}
 use Rattle.code.specs.declared.window.Window.{Window}
 use Rattle.code.proofs.States.{place-bit}
@@ -79,10 +79,10 @@ module _ (gs : List ℕ) (v N u : ℕ) where
       ap₂ ◌+◌ et here ∙ sym (ap (λ (k : ℕ). sum k (weighs gs v N u)) (add-one t) ∙ sum_last t (weighs gs v N u))
 
 -- all of them: the weight of the word
-pub steps_end : {o : Order} {u : ℕ} {w : Window} → CodeWord o u → First o u w → (gs : List ℕ) (steps t total : ℕ)
+pub steps_end : {o : Order} {u : ℕ} {w : Window} → AcceptedCode o → u < 2 ^ o.N → First o u w → (gs : List ℕ) (steps t total : ℕ)
     → gs ≡ o.generators → steps ≡ steps_of o → t ≡ steps → total ≡ sum t (weighs gs w.memory steps (number w.rest)) → total ≡ weight o u
-steps_end {o} {u} word first gs steps t total eg es et e =
-    let fit = fit_of_code o word.code in
+steps_end {o} {u} code fits first gs steps t total eg es et e =
+    let fit = fit_of_code o code in
     rw (et, es, eg, first.memory, first.rest) at e
-    ∙ sym (weight_is_sum_of_steps o.generators o.v (steps_of o) u (some_steps o word.code) (memory_fits o word.code) (wide_word o u word.fits) fit)
-    ∙ sym (weight_is_cyclic o u word.fits fit)
+    ∙ sym (weight_is_sum_of_steps o.generators o.v (steps_of o) u (some_steps o code) (memory_fits o code) (wide_word o u fits) fit)
+    ∙ sym (weight_is_cyclic o u fits fit)

@@ -10,9 +10,9 @@ use lib.Pow.{pow_pos, pow-add}
 use Rattle.poly.specs.Poly.{bit}
 use Rattle.poly.specs.Word.{number}
 use Rattle.order.specs.Order.{Order}
+use Rattle.order.specs.Model.Accepted.{AcceptedCode}
 use Rattle.code.specs.Links.{terminated, steps_of}
 use Rattle.code.specs.Trellis.{state_at, walk}
-use Rattle.code.specs.Model.Steps.{CodeWord}
 use Rattle.code.specs.Model.Window.{Later, last_state, first_state, First}
 use Rattle.code.specs.declared.window.Window.{Window}
 use Rattle.code.proofs.States.{state_at_lt}
@@ -76,14 +76,14 @@ module _ {w₀ : Window} {t : ℕ} {w : Window} (at : Later w₀ t w) where
       }
 
 -- of a word of an accepted code
-module _ {o : Order} {u : ℕ} (word : CodeWord o u) {w₀ : Window} (first : First o u w₀) {t : ℕ} {w : Window} (at : Later w₀ t w) where
+module _ {o : Order} {u : ℕ} (code : AcceptedCode o) {w₀ : Window} (first : First o u w₀) {t : ℕ} {w : Window} (at : Later w₀ t w) where
   pub kept_memory : w.memory ≤ 8
-  kept_memory = rw (at.memory, first.memory) word.code.small_memory
+  kept_memory = rw (at.memory, first.memory) code.small_memory
 
   -- what a step taps: the state of the definition and the word's bit
-  pub kept_inputs : t < steps_of o → 2 * w.state + number w.rest % 2 ≡ 2 * state_at o.v (steps_of o) u t + bit t u
+  pub kept_inputs : u < 2 ^ o.N → t < steps_of o → 2 * w.state + number w.rest % 2 ≡ 2 * state_at o.v (steps_of o) u t + bit t u
   unfolding bit
-  kept_inputs h =
+  kept_inputs fits h =
       let kept : w.state ≡ state_at o.v (steps_of o) u t =
-      at.state ∙ rw (first.memory, first.state, first.rest) (kept_window o u t word.code.long_enough word.fits (omega arith)) in
+      at.state ∙ rw (first.memory, first.state, first.rest) (kept_window o u t code.long_enough fits (omega arith)) in
       ap₂ (λ (x y : ℕ). 2 * x + y % 2) kept (at.rest ∙ ap (λ (x : ℕ). x / 2 ^ t) first.rest)

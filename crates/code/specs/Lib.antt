@@ -2,5 +2,4 @@ pub mod Links
 pub mod Weight
 pub mod Trellis
 pub mod Calls
-pub mod Answers
 pub mod Model

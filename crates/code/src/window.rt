@@ -3,11 +3,9 @@
 ghost use Rattle.std.specs.Prelude.{◌≡◌, ◌+◌, ◌*◌, ◌%◌, ◌≤◌};
 ghost use Rattle.poly.specs.Word.{number};
 ghost use Rattle.order.specs.Answers.{order_in};
-ghost use Rattle.order.specs.Model.Accepted.{AcceptedCode};
 ghost use Rattle.code.specs.Model.Window.{Later, last_state, First};
 
-use super::link::is_terminated;
-use order::record::OrderRecord;
+use super::link::Link;
 use poly::word::{Word, power, shift_down};
 
 // `memory` is document 01's v; bit 0 of `rest` is the next input.
@@ -41,38 +39,32 @@ impl Window {
 }
 
 // The state that a word's last v bits leave, moved in from state 0: what was in the window before them would be out again.
-fn last_state(order: OrderRecord, word: Word) -> u8
-    requires { AcceptedCode (order_in order) }
-    ensures { result ≡ last_state order.v order.bits (number word) }
+fn last_state(link: Link, word: Word) -> u8
+    ensures { result ≡ last_state link.order.v link.order.bits (number word) }
 {
+    let order = link.order;
     let mut window = Window {
         memory: order.v,
         state: 0,
         rest: shift_down(word, order.bits - order.v),
     };
-    let mut k = 0;
-    while k < order.v {
+    for _ in 0..order.v {
         window = window.moved();
-        k += 1;
     }
     window.state
 }
 
 // The window before the first step.
-pub fn first_window(order: OrderRecord, word: Word) -> Window
-    requires { AcceptedCode (order_in order) }
-    ensures { First (order_in order) (number word) result }
+pub fn first_window(link: Link, word: Word) -> Window
+    ensures { First (order_in link.order) (number word) result }
 {
-    if is_terminated(order) {
-        return Window {
-            memory: order.v,
-            state: 0,
-            rest: word,
-        };
-    }
-    let state = last_state(order, word);
+    let state = if link.is_terminated() {
+        0
+    } else {
+        last_state(link, word)
+    };
     Window {
-        memory: order.v,
+        memory: link.order.v,
         state,
         rest: word,
     }

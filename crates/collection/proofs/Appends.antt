@@ -15,8 +15,10 @@ use Rattle.lists.proofs.Stores.{sets_cleared}
 use Rattle.lists.proofs.Choices.{cond_true, cond_false}
 use Rattle.lists.proofs.Tests.{T_and, passes_or_fails}
 use Rattle.events.specs.declared.Event.{Event}
+use Rattle.collection.specs.declared.Decision.{Decision}
+use Rattle.collection.specs.declared.Decision.TheVariants as D
 use Rattle.collection.specs.declared.Node.{Node}
-use Rattle.collection.specs.Model.Backward.{goes_on, earlier, finished, found_in, found, append, appends, cut, event, on, decided}
+use Rattle.collection.specs.Model.Backward.{goes_on, earlier, finished, found_in, found, append, appends, decided}
 use Rattle.collection.proofs.Nodes.{ltb_fails, last_before}
 
 -- ---- one event, and several
@@ -72,34 +74,34 @@ appends_kept (e ∷ es) n s k = appends_kept es n (append s e) (append_kept n s 
 
 -- ---- a node
 
--- what the number of a decision says of its three tests
-abbrev choice : Bool → Bool → Bool → ℕ
-choice b g z = cond b cut (cond g (cond z event on) cut)
+-- what a decision says of its three tests
+abbrev choice : Bool → Bool → Bool → Decision
+choice b g z = cond b D.Cut (cond g (cond z D.Event D.On) D.Cut)
 
-cut_cases : (b g z : Bool) → choice b g z ≡ cut → T b ⊎ T (not g)
+cut_cases : (b g z : Bool) → choice b g z ≡ D.Cut → T b ⊎ T (not g)
 cut_cases true g z e = inl tt
-cut_cases false true true e = absurd (omega arith)
-cut_cases false true false e = absurd (omega arith)
+cut_cases false true true e = cc
+cut_cases false true false e = cc
 cut_cases false false z e = inr tt
 
-open_node : (b g z : Bool) → (choice b g z ≡ cut → ⊥) → T (not b) × T g
+open_node : (b g z : Bool) → (choice b g z ≡ D.Cut → ⊥) → T (not b) × T g
 open_node true g z n = absurd (n refl)
 open_node false true z n = (tt, tt)
 open_node false false z n = absurd (n refl)
 
-at_end : (b g z : Bool) → choice b g z ≡ event → T z
-at_end true g z e = absurd (omega arith)
+at_end : (b g z : Bool) → choice b g z ≡ D.Event → T z
+at_end true g z e = cc
 at_end false true true e = tt
-at_end false true false e = absurd (omega arith)
-at_end false false z e = absurd (omega arith)
+at_end false true false e = cc
+at_end false false z e = cc
 
-not_end : (b g z : Bool) → (choice b g z ≡ cut → ⊥) → (choice b g z ≡ event → ⊥) → T (not z)
+not_end : (b g z : Bool) → (choice b g z ≡ D.Cut → ⊥) → (choice b g z ≡ D.Event → ⊥) → T (not z)
 not_end true g z n m = absurd (n refl)
 not_end false true true n m = absurd (m refl)
 not_end false true false n m = tt
 not_end false false z n m = absurd (n refl)
 
-nothing_else : (b g z : Bool) → (choice b g z ≡ event → ⊥) → (choice b g z ≡ on → ⊥) → choice b g z ≡ cut
+nothing_else : (b g z : Bool) → (choice b g z ≡ D.Event → ⊥) → (choice b g z ≡ D.On → ⊥) → choice b g z ≡ D.Cut
 nothing_else true g z n m = refl
 nothing_else false true true n m = absurd (n refl)
 nothing_else false true false n m = absurd (m refl)
@@ -129,22 +131,22 @@ nonzero (suc x) t = omega arith
 
 module _ (work : List ℕ) (l : List Event) (at n : ℕ) (e : Node) (same : length l ≡ n) where
   -- cut, or the table is too small already
-  pub node_cut : decided work at n e ≡ cut → (l, at) ≡ appends (found work e) (l, at)
+  pub node_cut : decided work at n e ≡ D.Cut → (l, at) ≡ appends (found work e) (l, at)
   unfolding decided
   node_cut z =
       ⊎_elim (λ t. let past = ltb→lt n at t in appends_full (found work e) l at (omega arith))
       (λ g. appends_none (l, at) ∙ ap (λ (es : List Event). appends es (l, at)) (sym (found-cut e.left work e g)))
       (cut_cases (ltb n at) (goes_on work e) (eqb e.left 0) z)
 
-  pub node_ends : (decided work at n e ≡ event → ⊥) → (decided work at n e ≡ on → ⊥) → (l, at) ≡ appends (found work e) (l, at)
+  pub node_ends : (decided work at n e ≡ D.Event → ⊥) → (decided work at n e ≡ D.On → ⊥) → (l, at) ≡ appends (found work e) (l, at)
   unfolding decided
   node_ends o m = node_cut (nothing_else (ltb n at) (goes_on work e) (eqb e.left 0) o m)
 
-  pub node_open : (decided work at n e ≡ cut → ⊥) → at ≤ n
+  pub node_open : (decided work at n e ≡ D.Cut → ⊥) → at ≤ n
   unfolding decided
   node_open z = nltb→le n at (open_node (ltb n at) (goes_on work e) (eqb e.left 0) z).0
 
-  pub node_end : (decided work at n e ≡ cut → ⊥) → decided work at n e ≡ event → (set l at (finished work e), at + 1) ≡ appends (found work e) (l, at)
+  pub node_end : (decided work at n e ≡ D.Cut → ⊥) → decided work at n e ≡ D.Event → (set l at (finished work e), at + 1) ≡ appends (found work e) (l, at)
   unfolding decided
   node_end z o =
       let inside = node_open z in
@@ -152,7 +154,7 @@ module _ (work : List ℕ) (l : List Event) (at n : ℕ) (e : Node) (same : leng
       let none = eqb→eq e.left 0 (at_end (ltb n at) (goes_on work e) (eqb e.left 0) o) in
       appends_one l at (finished work e) (omega arith) ∙ ap (λ (es : List Event). appends es (l, at)) (sym (ap (λ (t : ℕ). found_in t work e) none ∙ found_end work e goes))
 
-  module _ (z : decided work at n e ≡ cut → ⊥) (o : decided work at n e ≡ event → ⊥) where
+  module _ (z : decided work at n e ≡ D.Cut → ⊥) (o : decided work at n e ≡ D.Event → ⊥) where
     pub node_longer : 0 < e.left
     unfolding decided
     node_longer = nonzero e.left (not_end (ltb n at) (goes_on work e) (eqb e.left 0) z o)

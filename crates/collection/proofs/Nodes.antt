@@ -6,13 +6,18 @@ use mathlib.Core.Path.{◌≡◌, refl, sym, ap, ap₂, ◌∙◌}
 use mathlib.Core.Logic.{◌≢◌}
 use mathlib.Core.Bool.{Bool, true, false, not, cond, ◌&&◌, ◌||◌}
 use mathlib.Core.List.{List}
-use lib.Dec.{T, ltb, eqb, lt→ltb, ltb→lt, not_T}
-use Rattle.lists.proofs.Choices.{cond_true, cond_false, eqb_passes, eqb_fails}
+use Rattle.std.specs.Prelude.{None, Some}
+use lib.Dec.{T, ltb, eqb, ltb→lt, not_T}
+use Rattle.lists.proofs.Choices.{eqb_passes, eqb_fails}
 use Rattle.lists.proofs.Tests.{true_of_T, false_of_T_not}
 use Rattle.code.specs.Model.Steps.{most_steps}
+use Rattle.collection.specs.declared.Branches.{Branches}
+use Rattle.collection.specs.declared.Branches.TheVariants as B
+use Rattle.collection.specs.declared.Decision.{Decision}
+use Rattle.collection.specs.declared.Decision.TheVariants as D
 use Rattle.collection.specs.declared.Node.{Node}
 use Rattle.needed.specs.Model.Tables.{need, step_at, length_at, threshold_at, half_at, Tables, Step}
-use Rattle.collection.specs.Model.Backward.{goes_on, earlier, first, cut, event, on, decided, neither, only_low, only_high, both, ways_on, last_of, decided_last, Walkable, Back}
+use Rattle.collection.specs.Model.Backward.{goes_on, earlier, first, decided, ways_on, last_of, decided_last, Walkable, Back}
 use Rattle.needed.proofs.Filling.{step_small, need-small}
 
 pub ltb_fails : (m n : ℕ) → n ≤ m → T (not (ltb m n))
@@ -33,23 +38,16 @@ goes_below work e r n is =
 
 -- ---- what to do at a node
 
-module _ (work : List ℕ) (at room : ℕ) (e : Node) where
-  pub decided_full : room < at → cut ≡ decided work at room e
-  unfolding decided
-  decided_full h = sym (cond_true (ltb room at) 0 _ (lt→ltb room at h))
-
-  open_room : at ≤ room → decided work at room e ≡ cond (goes_on work e) (cond (eqb e.left 0) event on) cut
-  unfolding decided
-  open_room h = cond_false (ltb room at) 0 _ (ltb_fails room at h)
-
-  pub decided-cut : at ≤ room → goes_on work e ≡ false → cut ≡ decided work at room e
-  decided-cut h g = sym (open_room h ∙ ap (λ (b : Bool). cond b (cond (eqb e.left 0) event on) cut) g)
-
-  pub decided_end : at ≤ room → goes_on work e ≡ true → e.left ≡ 0 → event ≡ decided work at room e
-  decided_end h g z = sym (open_room h ∙ ap (λ (b : Bool). cond b (cond (eqb e.left 0) event on) cut) g ∙ cond_true (eqb e.left 0) 1 2 (eqb_passes e.left 0 z))
-
-  pub decided_more : at ≤ room → goes_on work e ≡ true → e.left ≢ 0 → on ≡ decided work at room e
-  decided_more h g z = sym (open_room h ∙ ap (λ (b : Bool). cond b (cond (eqb e.left 0) event on) cut) g ∙ cond_false (eqb e.left 0) 1 2 (eqb_fails e.left 0 z))
+-- whichever test is asked first
+pub decided_goes : (work : List ℕ) (at room : ℕ) (e : Node) (g : Bool) → goes_on work e ≡ g → cond g (decided_last at room e.left) D.Cut ≡ decided work at room e
+unfolding decided
+decided_goes work at room e g h =
+    ap (λ (b : Bool). cond b (decided_last at room e.left) D.Cut) (sym h) ∙ in_order (goes_on work e) (ltb room at) (eqb e.left 0)
+  where
+    in_order : (a b z : Bool) → ◌≡◌ {A = Decision} (cond a (cond b D.Cut (cond z D.Event D.On)) D.Cut) (cond b D.Cut (cond a (cond z D.Event D.On) D.Cut))
+    in_order true b z = refl
+    in_order false true z = refl
+    in_order false false z = refl
 
 -- ---- one step back
 
@@ -75,12 +73,6 @@ first_node steps k most state rem = record { state_small = state; left_small = o
 
 -- the sums of `step_back`
 module _ (work : List ℕ) (e : Node) (top : ℕ) (ok : Back work e top) where
-  pub top_fits : top * half_at work < 2 ^ 64
-  top_fits = let small = top_small top (half_at work) ok.top_bit ok.tables.half_small in omega arith
-
-  pub state_fits : e.state / 2 + top * half_at work < 2 ^ 64
-  state_fits = let small = before_small work e top ok.tables ok.walkable ok.top_bit in omega arith
-
   pub step_before : Step work (e.state / 2 + top * half_at work) (e.state % 2)
   step_before = record { tables = ok.tables; state = before_small work e top ok.tables ok.walkable ok.top_bit; input = omega arith }
 
@@ -96,95 +88,65 @@ earlier_shorter work e top pos = omega arith
 
 -- ---- of two nodes, which go on, and the last that does
 
-abbrev ways : Bool → Bool → ℕ
-ways a b = cond a (cond b both only_low) (cond b only_high neither)
+abbrev ways : Bool → Bool → Branches
+ways a b = cond a (cond b B.Both B.Low) (cond b B.High B.Neither)
 
 module _ (work : List ℕ) (x y : Node) where
   pub ways_are : (a b : Bool) → goes_on work x ≡ a → goes_on work y ≡ b → ways a b ≡ ways_on work x y
   unfolding ways_on
   ways_are a b p q = sym (ap₂ ways p q)
 
-  pub ways_both : ways_on work x y ≡ both → T (goes_on work x && goes_on work y)
+  pub ways_both : ways_on work x y ≡ B.Both → T (goes_on work x && goes_on work y)
   unfolding ways_on
   ways_both e = of_both (goes_on work x) (goes_on work y) e
     where
-      of_both : (a b : Bool) → ways a b ≡ both → T (a && b)
+      of_both : (a b : Bool) → ways a b ≡ B.Both → T (a && b)
       of_both true true e = tt
-      of_both true false e = absurd (omega arith)
-      of_both false true e = absurd (omega arith)
-      of_both false false e = absurd (omega arith)
+      of_both true false e = cc
+      of_both false true e = cc
+      of_both false false e = cc
 
-  pub ways_one : (ways_on work x y ≡ both → ⊥) → T (not (goes_on work x && goes_on work y))
+  pub ways_one : (ways_on work x y ≡ B.Both → ⊥) → T (not (goes_on work x && goes_on work y))
   unfolding ways_on
   ways_one n = one (goes_on work x) (goes_on work y) n
     where
-      one : (a b : Bool) → (ways a b ≡ both → ⊥) → T (not (a && b))
+      one : (a b : Bool) → (ways a b ≡ B.Both → ⊥) → T (not (a && b))
       one true true n = absurd (n refl)
       one true false n = tt
       one false b n = tt
 
-  pub ways_last : last_of (ways_on work x y) x y ≡ cond (goes_on work y) y x
+  -- the second where it goes on, and else the first where that does
+  abbrev last : Node
+  last = cond (goes_on work y) y x
+
+  ways_last : last_of (ways_on work x y) x y ≡ cond (goes_on work last) (Some last) None
   unfolding ways_on
-  ways_last = chosen (goes_on work x) (goes_on work y)
+  ways_last = chosen (goes_on work x) (goes_on work y) ∙ ap (λ (g : Bool). cond g (Some last) None) (sym (of_chosen (goes_on work y)))
     where
-      chosen : (a b : Bool) → last_of (ways a b) x y ≡ cond b y x
+      chosen : (a b : Bool) → last_of (ways a b) x y ≡ cond (cond b b a) (Some (cond b y x)) None
       chosen true true = refl
       chosen true false = refl
       chosen false true = refl
       chosen false false = refl
 
-  -- none goes on where the last does not
-  ways_none : eqb (ways_on work x y) neither ≡ not (goes_on work (cond (goes_on work y) y x))
-  unfolding ways_on
-  ways_none = none (goes_on work x) (goes_on work y) ∙ ap not (sym (of_chosen (goes_on work y)))
-    where
-      none : (a b : Bool) → eqb (ways a b) neither ≡ not (cond b b a)
-      none true true = refl
-      none true false = refl
-      none false true = refl
-      none false false = refl
-
       of_chosen : (b : Bool) → goes_on work (cond b y x) ≡ cond b (goes_on work y) (goes_on work x)
       of_chosen true = refl
       of_chosen false = refl
 
-  pub last_decided : (at room : ℕ) → decided_last (ways_on work x y) at room (cond (goes_on work y) y x).left ≡ decided work at room (cond (goes_on work y) y x)
-  unfolding decided_last decided
-  last_decided at room =
-      let e : Node = cond (goes_on work y) y x in
-      ap (λ (b : Bool). cond b 0 (cond (ltb room at) 0 (cond (eqb e.left 0) 1 2))) ways_none ∙ in_order (goes_on work e) (ltb room at) (eqb e.left 0)
+  pub last_found : (e : Node) → last_of (ways_on work x y) x y ≡ Some e → (e ≡ last) × (goes_on work last ≡ true)
+  last_found e is = of_some (goes_on work last) (sym ways_last ∙ is)
     where
-      in_order : (g b z : Bool) → ◌≡◌ {A = ℕ} (cond (not g) 0 (cond b 0 (cond z 1 2))) (cond b 0 (cond g (cond z 1 2) 0))
-      in_order true b z = refl
-      in_order false true z = refl
-      in_order false false z = refl
+      of_some : (g : Bool) → cond g (Some last) None ≡ Some e → (e ≡ last) × (g ≡ true)
+      of_some true is' = (cc, refl)
+      of_some false is' = cc
 
--- the cases of `last_of`
-module _ (ways : ℕ) (x y : Node) where
-  pub last_low : ways < only_high → x ≡ last_of ways x y
-  last_low h = sym (cond_true (ltb ways only_high) x y (lt→ltb ways only_high h))
-
-  pub last_high : only_high ≤ ways → y ≡ last_of ways x y
-  last_high h = sym (cond_false (ltb ways only_high) x y (ltb_fails ways only_high h))
-
--- the cases of `decide_last`
-module _ (ways at room left : ℕ) where
-  pub last_none : ways ≡ neither → cut ≡ decided_last ways at room left
-  unfolding decided_last
-  last_none h = sym (cond_true (eqb ways 0) 0 _ (eqb_passes ways 0 h))
-
-  some_go_on : ways ≢ neither → decided_last ways at room left ≡ cond (ltb room at) 0 (cond (eqb left 0) 1 2)
-  unfolding decided_last
-  some_go_on h = cond_false (eqb ways 0) 0 _ (eqb_fails ways 0 h)
-
-  pub last_full : ways ≢ neither → room < at → cut ≡ decided_last ways at room left
-  last_full h g = sym (some_go_on h ∙ cond_true (ltb room at) 0 _ (lt→ltb room at g))
-
-  pub last_end : ways ≢ neither → at ≤ room → left ≡ 0 → event ≡ decided_last ways at room left
-  last_end h g z = sym (some_go_on h ∙ cond_false (ltb room at) 0 _ (ltb_fails room at g) ∙ cond_true (eqb left 0) 1 2 (eqb_passes left 0 z))
-
-  pub last_more : ways ≢ neither → at ≤ room → left ≢ 0 → on ≡ decided_last ways at room left
-  last_more h g z = sym (some_go_on h ∙ cond_false (ltb room at) 0 _ (ltb_fails room at g) ∙ cond_false (eqb left 0) 1 2 (eqb_fails left 0 z))
+  -- none goes on where the last does not
+  pub ways_none : last_of (ways_on work x y) x y ≡ None → goes_on work last ≡ false
+  ways_none is = of_none (goes_on work last) (sym ways_last ∙ is)
+    where
+      of_none : (g : Bool) → cond g (Some last) None ≡ None → g ≡ false
+      of_none true is' = cc
+      of_none false is' = refl
 
 -- the last node before that goes on, or the one with the highest bit clear
 abbrev pub last_before : List ℕ → Node → Node

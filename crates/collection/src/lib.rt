@@ -11,12 +11,13 @@ ghost use Rattle.needed.specs.Model.Tables.{Tables};
 ghost use Rattle.collection.specs.Model.Backward.{goes_on, earlier, finished, found, first, appends, decided, ways_on, last_of, decided_last, Walkable, Back, TwoBack, Descent};
 ghost use Rattle.collection.specs.Model.Gathered.{Gathered};
 
-use code::link::steps_of;
+use code::link::Link;
 use events::{Event, clear_events, put_event};
-use lists::clear_words;
+use lists::clear;
 use needed::schedule::{prepare_for, turn_count, turn_for};
 use needed::tables::{HALF_AT, LENGTH_AT, THRESHOLD_AT, need_at, step_at};
 use order::record::OrderRecord;
+use order::refusal::Refusal;
 
 // ---- the walk backwards
 
@@ -30,21 +31,22 @@ pub struct Node {
     pub high: u64,
 }
 
-// What is decided of a node.
-const CUT: u64 = 0;
-
-const EVENT: u64 = 1;
-
-const ON: u64 = 2;
+// What is decided of a node: no event comes of it, it is an event, or its walk goes on.
+#[derive(Clone, Copy, PartialEq, Eq)]
+pub enum Decision {
+    Cut,
+    Event,
+    On,
+}
 
 // Of two nodes, which go on.
-const NEITHER: u64 = 0;
-
-const ONLY_LOW: u64 = 1;
-
-const ONLY_HIGH: u64 = 2;
-
-const BOTH: u64 = 3;
+#[derive(Clone, Copy, PartialEq, Eq)]
+pub enum Branches {
+    Neither,
+    Low,
+    High,
+    Both,
+}
 
 // Whether an event below the threshold may still come of the node.
 fn goes_on(work: &[u64], node: Node) -> bool
@@ -57,20 +59,27 @@ fn goes_on(work: &[u64], node: Node) -> bool
     node.weight + need_at(work, node.left, node.state) < work[THRESHOLD_AT]
 }
 
-fn decide(work: &[u64], at: usize, room: usize, node: Node) -> u64
+// What is decided of a node that goes on, where so many steps are left.
+fn decide_last(at: usize, room: usize, left: u64) -> Decision
+    ensures { result ≡ decided_last at room left }
+{
+    if room < at {
+        return Decision::Cut;
+    }
+    if left == 0 {
+        return Decision::Event;
+    }
+    Decision::On
+}
+
+fn decide(work: &[u64], at: usize, room: usize, node: Node) -> Decision
     requires { Tables work.now × Walkable node }
     ensures { result ≡ decided work.now at room node }
 {
-    if room < at {
-        return CUT;
-    }
     if !goes_on(work, node) {
-        return CUT;
+        return Decision::Cut;
     }
-    if node.left == 0 {
-        return EVENT;
-    }
-    ON
+    decide_last(at, room, node.left)
 }
 
 // The node one step back, the register's highest bit being `top`.
@@ -81,7 +90,7 @@ fn step_back(work: &[u64], node: Node, top: u64) -> Node
     let state = node.state / 2 + top * work[HALF_AT];
     let step = step_at(work, state, node.state % 2);
     Node {
-        state: state,
+        state,
         left: node.left - 1,
         weight: node.weight + step,
         low: (node.low << 1) + node.state % 2,
@@ -89,46 +98,27 @@ fn step_back(work: &[u64], node: Node, top: u64) -> Node
     }
 }
 
-fn ways_on(work: &[u64], low: Node, high: Node) -> u64
+fn ways_on(work: &[u64], low: Node, high: Node) -> Branches
     requires { TwoBack work.now low high }
     ensures { result ≡ ways_on work.now low high }
 {
-    if goes_on(work, low) {
-        if goes_on(work, high) {
-            return BOTH;
-        }
-        return ONLY_LOW;
+    match (goes_on(work, low), goes_on(work, high)) {
+        (false, false) => Branches::Neither,
+        (true, false) => Branches::Low,
+        (false, true) => Branches::High,
+        (true, true) => Branches::Both,
     }
-    if goes_on(work, high) {
-        return ONLY_HIGH;
-    }
-    NEITHER
 }
 
 // The last of the two that goes on, if any does.
-fn last_of(ways: u64, low: Node, high: Node) -> Node
+fn last_of(ways: Branches, low: Node, high: Node) -> Option<Node>
     ensures { result ≡ last_of ways low high }
 {
-    if ways < ONLY_HIGH {
-        return low;
+    match ways {
+        Branches::Neither => None,
+        Branches::Low => Some(low),
+        Branches::High | Branches::Both => Some(high),
     }
-    high
-}
-
-// What `decide` says of it, where so many steps are left.
-fn decide_last(ways: u64, at: usize, room: usize, left: u64) -> u64
-    ensures { result ≡ decided_last ways at room left }
-{
-    if ways == NEITHER {
-        return CUT;
-    }
-    if room < at {
-        return CUT;
-    }
-    if left == 0 {
-        return EVENT;
-    }
-    ON
 }
 
 // The event of a node with no step left.
@@ -159,16 +149,6 @@ fn first_node(steps: u64, k: u64) -> Node
     }
 }
 
-// ---- what a call asks and answers
-
-// The node that turn k of the order begins with.
-fn node_for(order: OrderRecord, k: u64) -> Node
-    requires { AcceptedCode (order_in order) }
-    ensures { result ≡ first (steps_of (order_in order)) k }
-{
-    first_node(steps_of(order), k)
-}
-
 // ---- the event table
 
 // An event is stored at `at` where that is in the table, and counted in any case.
@@ -178,7 +158,6 @@ fn push_event(table: &mut [Event], at: usize, e: Event) -> usize
 {
     if at < table.len() {
         put_event(table, at, e);
-        return at + 1;
     }
     at + 1
 }
@@ -193,42 +172,43 @@ fn descend(work: &[u64], table: &mut [Event], at: usize, node: Node) -> usize
     let mut next = at;
     let mut here = node;
     let mut what = decide(work, at, room, node);
-    while what == ON {
+    while what == Decision::On {
         let low = step_back(work, here, 0);
         let high = step_back(work, here, 1);
         let ways = ways_on(work, low, high);
-        if ways == BOTH {
-            let after = descend(work, table, next, low);
-            next = after;
+        if ways == Branches::Both {
+            next = descend(work, table, next, low);
         }
-        here = last_of(ways, low, high);
-        let then = decide_last(ways, next, room, here.left);
-        what = then;
+        let Some(last) = last_of(ways, low, high) else {
+            return next;
+        };
+        here = last;
+        what = decide_last(next, room, here.left);
     }
-    if what == EVENT {
-        let event = finish(work, here);
-        return push_event(table, next, event);
+    if what == Decision::Event {
+        return push_event(table, next, finish(work, here));
     }
     next
 }
 
-// The collection for an accepted order: how many events there are, and the table has them first and zero records after them; or a number above the entries
-// of the table, and then nothing is said of the table. The work area ends as zeros.
-pub fn gather(order: OrderRecord, events: &mut [Event], work: &mut [u64]) -> usize
+// The collection for an accepted order: how many events there are, and the table has them first and zero records after them; or they are too many for the
+// table, and then nothing is said of it. The work area ends as zeros.
+pub fn gather(order: OrderRecord, events: &mut [Event], work: &mut [u64]) -> Result<usize, Refusal>
     requires { Accepted (order_in order) × (work_size ≤ length work.old) }
     ensures { Gathered (order_in order) events.old events.new work.old work.new result }
 {
+    let link = Link::new(order);
     clear_events(events);
-    prepare_for(order, work);
-    let last = turn_count(order);
+    prepare_for(link, work);
     let mut at = 0;
-    let mut k = 0;
-    while k < last {
-        turn_for(order, work, k);
-        let node = node_for(order, k);
+    for k in 0..turn_count(link) {
+        turn_for(link, work, k);
+        let node = first_node(link.steps(), k);
         at = descend(work, events, at, node);
-        k += 1;
     }
-    clear_words(work);
-    at
+    clear(work, 0);
+    if events.len() < at {
+        return Err(Refusal::TooManyEvents);
+    }
+    Ok(at)
 }

@@ -6,15 +6,15 @@ use mathlib.Core.List.{[], ◌∷◌}
 use mathlib.Core.Logic.{◌↔◌}
 use Prim.Native.Nat.{ℕ, zero, suc, ◌+◌, ◌-◌, ◌/◌, ◌^◌, ◌<◌}
 use native.Mathlib.Nat.{sub-add_cancel, le_of_lt, div-lt_iff_lt-mul}
-use borrow.Author.Tests.{ltb-true, lt-ltb}
+use borrow.Author.Tests.{lt-ltb}
 use lib.Pow.{pow_pos, pow-add}
 use Rattle.poly.specs.Poly.{HasDegree, Divides}
 use Rattle.order.specs.Questions.{first_no, below}
 use Rattle.order.specs.Answer.{Answer, accepted, unless}
-use Rattle.order.proofs.FirstNo.{Numbered, first_no_none, first_no_yes, asked, none_in_parts, is_answered, refused_later}
+use Rattle.order.proofs.FirstNo.{first_no_none, first_no_yes, is_answered, refused_later}
 use Rattle.crc.specs.Check.{append, message, strip, divisible, test, polynomial_questions, word_questions, append_call, strip_call, test_call}
 use Rattle.crc.proofs.Laws.{append_high, append_lt, strip-append, append-strip, strip_message⇔divides, test_divisible⇔divides}
-use Rattle.crc.proofs.Calls.{accepted_polynomial}
+use Rattle.crc.proofs.Calls.{accepted_polynomial, numbered, passed}
 
 -- an accepted answer was refused by no question
 not_refused : {A : Type 0} (k : ℕ) (answer : Answer A) (x : A) → unless k answer ≡ accepted x → (k ≡ 0) × (answer ≡ accepted x)
@@ -23,25 +23,10 @@ not_refused zero answer x e = (refl, e)
 not_refused (suc k) answer x e = (cc, cc)
 
 module _ (N m p : ℕ) where
-  numbered : Numbered (polynomial_questions N m p)
-  unfolding polynomial_questions
-  numbered = tt
-
-  -- questions 5, 6 and 11 pass, and 12 of a word of k bits
-  record Passed (k u : ℕ) : Type 0 where
-    polynomial : first_no (polynomial_questions N m p) ≡ 0
-    small : u < 2 ^ k
-
-  passed : (k u : ℕ) → first_no (word_questions N m p k u) ≡ 0 → Passed k u
-  unfolding word_questions
-  passed k u e =
-      let parts = none_in_parts (polynomial_questions N m p) (below k u ∷ []) numbered e in
-      record { polynomial = parts.0; small = ltb-true u (2 ^ k) (asked 12 (below k u ∷ []) tt parts.1) }
-
   passes : (k u : ℕ) → first_no (polynomial_questions N m p) ≡ 0 → u < 2 ^ k → first_no (word_questions N m p k u) ≡ 0
   unfolding word_questions
   passes k u e h =
-      sym (refused_later (polynomial_questions N m p) (below k u ∷ []) 0 0 numbered (sym e) refl (sym (first_no_yes (below k u) [] (lt-ltb u (2 ^ k) h) ∙ first_no_none)))
+      sym (refused_later (polynomial_questions N m p) (below k u ∷ []) 0 0 (numbered N m p) (sym e) refl (sym (first_no_yes (below k u) [] (lt-ltb u (2 ^ k) h) ∙ first_no_none)))
 
   -- what is appended is stripped again, and the other way round
   pub append_call⇔strip_call : (f u : ℕ) → (append_call N m p f ≡ accepted u) ↔ (strip_call N m p u ≡ accepted (message f))
@@ -51,7 +36,7 @@ module _ (N m p : ℕ) where
       to : unless (first_no (word_questions N m p (N - m) f)) (accepted (append m p f)) ≡ accepted u → unless (first_no (word_questions N m p N u)) (accepted (strip m p u)) ≡ accepted (message f)
       to e =
           let got = not_refused _ _ u e in
-          let ok = passed (N - m) f got.0 in
+          let ok = passed N m p (N - m) f got.0 in
           let acc = accepted_polynomial N m p ok.polynomial in
           let same : append m p f ≡ u = cc got.1 in
           let wide : append m p f < 2 ^ N = rw (sub-add_cancel (le_of_lt acc.degree-below)) at (append_lt m p f (N - m) acc.degree ok.small) in
@@ -61,7 +46,7 @@ module _ (N m p : ℕ) where
       back : unless (first_no (word_questions N m p N u)) (accepted (strip m p u)) ≡ accepted (message f) → unless (first_no (word_questions N m p (N - m) f)) (accepted (append m p f)) ≡ accepted u
       back e =
           let got = not_refused _ _ (message f) e in
-          let ok = passed N u got.0 in
+          let ok = passed N m p N u got.0 in
           let acc = accepted_polynomial N m p ok.polynomial in
           let stripped : strip m p u ≡ message f = cc got.1 in
           let same : append m p f ≡ u = append-strip m p u f stripped in
@@ -73,7 +58,7 @@ module _ (N m p : ℕ) where
   -- of a word that no question refuses
   module _ (u : ℕ) (none : first_no (word_questions N m p N u) ≡ 0) where
     degree : HasDegree m p
-    degree = (accepted_polynomial N m p (passed N u none).polynomial).degree
+    degree = (accepted_polynomial N m p (passed N m p N u none).polynomial).degree
 
     pub strip_call_message⇔divides : ((f : ℕ) × (strip_call N m p u ≡ accepted (message f))) ↔ Divides p u
     unfolding strip_call

@@ -4,7 +4,7 @@ use mathlib.Core.Path.{◌≡◌, sym, ap, ap₂, ◌∙◌, subst}
 use mathlib.Core.Bool.{true, false}
 use mathlib.Core.List.{[], ◌∷◌}
 use Prim.Native.Nat.{ℕ, ◌+◌, ◌-◌, ◌*◌, ◌/◌, ◌^◌, ◌≤◌, ◌<◌}
-use native.Mathlib.Nat.{suc-ne-zero, sub-add_cancel, le_of_lt, lt_of_lt_of_le, zero-add}
+use native.Mathlib.Nat.{sub-add_cancel, le_of_lt, lt_of_lt_of_le, zero-add}
 use borrow.Author.Tests.{ltb-true, eqb-true}
 use lib.Dec.{ltb, eqb}
 use lib.Pow.{shl_lt, pow_mono}
@@ -12,8 +12,7 @@ use Rattle.lists.proofs.Tests.{both}
 use Rattle.order.proofs.Answers.{range}
 use Rattle.poly.specs.Poly.{bit, ◌⊕◌, HasDegree, remainder}
 use Rattle.order.specs.Questions.{first_no, from_to, below}
-use Rattle.order.specs.Answer.{Answer, refused, unless}
-use Rattle.order.proofs.FirstNo.{Numbered, first_no_none, first_no_yes, first_no_no, refused_first, refused_later, is_refused, is_answered, asked}
+use Rattle.order.proofs.FirstNo.{Numbered, first_no_none, first_no_yes, first_no_no, refused_first, refused_later, none_in_parts, asked}
 use Rattle.crc.specs.Check.{append, polynomial_questions, word_questions}
 
 -- what questions 5, 6 and 11 let a call assume
@@ -41,25 +40,39 @@ accepted_polynomial N m p e =
       degree = eqb-true (p / 2 ^ m) 1 eleven.0;
     }
 
--- a refusal by questions 5, 6 and 11, one by 12, and none: whatever the call would answer
-module _ {A : Type 0} (answer : Answer A) (N m p k u r : ℕ) (e : r ≡ first_no (polynomial_questions N m p)) where
-  numbered : Numbered (polynomial_questions N m p)
-  unfolding polynomial_questions
-  numbered = tt
+pub numbered : (N m p : ℕ) → Numbered (polynomial_questions N m p)
+unfolding polynomial_questions
+numbered N m p = tt
 
-  pub refused_early : (r ≡ 0 → ⊥) → refused r ≡ unless (first_no (word_questions N m p k u)) answer
-  unfolding word_questions
-  refused_early n = is_refused answer r _ (refused_first (polynomial_questions N m p) (below k u ∷ []) r numbered e n) n
+-- questions 5, 6 and 11 pass, and 12 of a word of k bits
+pub record Passed (N m p k u : ℕ) : Type 0 where
+  pub polynomial : first_no (polynomial_questions N m p) ≡ 0
+  pub small : u < 2 ^ k
 
-  pub refused_late : r ≡ 0 → ltb u (2 ^ k) ≡ false → refused 12 ≡ unless (first_no (word_questions N m p k u)) answer
-  unfolding word_questions
-  refused_late z b =
-      is_refused answer 12 _ (refused_later (polynomial_questions N m p) (below k u ∷ []) r 12 numbered e z (sym (first_no_no (below k u) [] b))) (suc-ne-zero 11)
+pub passed : (N m p k u : ℕ) → first_no (word_questions N m p k u) ≡ 0 → Passed N m p k u
+unfolding word_questions
+passed N m p k u e =
+    let parts = none_in_parts (polynomial_questions N m p) (below k u ∷ []) (numbered N m p) e in
+    record { polynomial = parts.0; small = ltb-true u (2 ^ k) (asked 12 (below k u ∷ []) tt parts.1) }
 
-  pub answered : r ≡ 0 → ltb u (2 ^ k) ≡ true → answer ≡ unless (first_no (word_questions N m p k u)) answer
+-- a refusal by questions 5, 6 and 11, one by 12, and none
+module _ (N m p k u r : ℕ) (e : r ≡ first_no (polynomial_questions N m p)) where
+  pub refused_early : (r ≡ 0 → ⊥) → r ≡ first_no (word_questions N m p k u)
   unfolding word_questions
-  answered z b =
-      is_answered answer _ (refused_later (polynomial_questions N m p) (below k u ∷ []) r 0 numbered e z (sym (first_no_yes (below k u) [] b ∙ first_no_none)))
+  refused_early n = refused_first (polynomial_questions N m p) (below k u ∷ []) r (numbered N m p) e n
+
+  module _ (z : r ≡ 0) where
+    pub refused_late : ltb u (2 ^ k) ≡ false → 12 ≡ first_no (word_questions N m p k u)
+    unfolding word_questions
+    refused_late b = refused_later (polynomial_questions N m p) (below k u ∷ []) r 12 (numbered N m p) e z (sym (first_no_no (below k u) [] b))
+
+    pub answered : ltb u (2 ^ k) ≡ true → 0 ≡ first_no (word_questions N m p k u)
+    unfolding word_questions
+    answered b = refused_later (polynomial_questions N m p) (below k u ∷ []) r 0 (numbered N m p) e z (sym (first_no_yes (below k u) [] b ∙ first_no_none))
+
+-- a message has N - m bits
+pub of_message : (N m p k u : ℕ) {r : ℕ} → k ≡ N - m → r ≡ first_no (word_questions N m p k u) → r ≡ first_no (word_questions N m p (N - m) u)
+of_message N m p k u same e = e ∙ ap (λ (x : ℕ). first_no (word_questions N m p x u)) same
 
 -- ---- what append computes
 

@@ -4,8 +4,11 @@ use mathlib.Core.Path.{◌≡◌, refl, sym, ap, ap₂, ◌∙◌, subst}
 use mathlib.Core.Logic.{◌↔◌}
 use Prim.Native.Nat.{ℕ, zero, suc, ◌+◌, ◌*◌, ◌/◌, ◌%◌, ◌^◌, ◌<◌}
 use native.Mathlib.Nat.{mod-lt, suc-ne-zero, div-eq_of_lt, div-lt_iff_lt-mul}
+use borrow.Author.Tests.{ne_eqb}
+use lib.Dec.{eqb}
 use lib.Pow.{pow_pos, pow-add, split, shl-shr}
 use Rattle.poly.specs.Poly.{◌⊕◌, HasDegree, remainder, Divides}
+use Rattle.crc.specs.Answers.{divisibility}
 use Rattle.crc.specs.Check.{append, message, damaged, divisible, indivisible, stripped, strip, tested, test}
 use Rattle.poly.proofs.Sum.{⊕_self, ⊕_shifted, ⊕_shr, ⊕_zero_r, eq_of_⊕_zero}
 use Rattle.poly.proofs.Remainder.{remainder_⊕, remainder_small, remainder_lt, divides⇒remainder_zero, remainder_zero⇒divides}
@@ -88,6 +91,11 @@ pub test_nonzero : (m p u x : ℕ) → x ≡ remainder m p u → (x ≡ 0 → �
 unfolding test tested
 test_nonzero m p u zero e n = absurd (n refl)
 test_nonzero m p u (suc x) e n = ap tested (sym e)
+
+pub test_told : (m p u x : ℕ) → x ≡ remainder m p u → divisibility (eqb x 0) ≡ test m p u
+unfolding test tested
+test_told m p u zero e = ap tested e
+test_told m p u (suc x) e = ap divisibility (ne_eqb (suc x) 0 (suc-ne-zero x)) ∙ ap tested e
 
 tested_divisible : (r : ℕ) → tested r ≡ divisible → r ≡ 0
 unfolding tested

@@ -1,8 +1,9 @@
 #![tactic(auto)]
-// The calls for hosts in C and Rust: an order, numbers and slices in, structs out. include/dohvrin.h says what each takes and leaves.
+// The calls for hosts in C and Rust: an order, numbers and slices in, structs out. include/dohvrin.h says what each takes and leaves. Calls
+// of one shape stay apart, since each is a symbol for C.
 ghost use Rattle.std.specs.Prelude.{◌≡◌, ◌+◌, ◌*◌, ◌^◌};
 ghost use Rattle.order.specs.Order.{read};
-ghost use Rattle.order.specs.Answers.{order_in, reading_of};
+ghost use Rattle.order.specs.Answers.{order_in};
 ghost use Rattle.text.specs.Calls.{row_call, refusal_call};
 ghost use Rattle.crc.specs.Check.{append_call, strip_call, test_call};
 ghost use Rattle.code.specs.Calls.{weigh_call, encode_call};
@@ -10,16 +11,13 @@ ghost use Rattle.jobs.specs.Jobs.{search_tables};
 ghost use Rattle.search.specs.Calls.{event_tables, path_tables, collect_call, list_call, search_call, count_call};
 ghost use Rattle.quote.specs.Calls.{quote_call};
 ghost use Rattle.set.specs.Calls.{set_call};
-ghost use Rattle.answers.specs.Answers.{number_answer, word_answer, told, told_with, stripped_answer, tested_answer, numbered, row_with, answer_in, part_answer};
+ghost use Rattle.answers.specs.Answers.{number_answer, word_answer, told, told_with, stripped_answer, tested_answer, numbered, row_with, answer_in, reading_of, part_answer};
 
-use answers::{
-    HostAnswer, PartAnswer, RowAnswer, answer_of, answered, appended, encoded, part_answer,
-    stripped, tested, weighed, written,
-};
+use answers::{HostAnswer, PartAnswer, Reading, RowAnswer, refusal_number};
 use code::{encode, weigh};
 use crc::{append, strip, test};
 use events::Event;
-use order::record::{OrderRecord, Reading, read_order};
+use order::record::{OrderRecord, read_order};
 use paths::{part, paths_to};
 use poly::word::make;
 use quote::quote;
@@ -38,7 +36,7 @@ pub extern "C" fn dohvrin_append(
 ) -> HostAnswer
     ensures { result ≡ told word_answer (append_call bits m polynomial (high * 2 ^ 64 + low)) }
 {
-    appended(append(bits, m, polynomial, make(low, high)))
+    append(bits, m, polynomial, make(low, high)).into()
 }
 
 // The message of a word, or its nonzero remainder.
@@ -52,7 +50,7 @@ pub extern "C" fn dohvrin_strip(
 ) -> HostAnswer
     ensures { result ≡ told stripped_answer (strip_call bits m polynomial (high * 2 ^ 64 + low)) }
 {
-    stripped(strip(bits, m, polynomial, make(low, high)))
+    strip(bits, m, polynomial, make(low, high)).into()
 }
 
 // Whether the polynomial divides a word.
@@ -66,7 +64,7 @@ pub extern "C" fn dohvrin_test(
 ) -> HostAnswer
     ensures { result ≡ told tested_answer (test_call bits m polynomial (high * 2 ^ 64 + low)) }
 {
-    tested(test(bits, m, polynomial, make(low, high)))
+    test(bits, m, polynomial, make(low, high)).into()
 }
 
 // The weight of a word.
@@ -74,7 +72,7 @@ pub extern "C" fn dohvrin_test(
 pub extern "C" fn dohvrin_weigh(order: OrderRecord, low: u64, high: u64) -> HostAnswer
     ensures { result ≡ told number_answer (weigh_call (order_in order) (high * 2 ^ 64 + low)) }
 {
-    weighed(weigh(order, make(low, high)))
+    weigh(order, make(low, high)).into()
 }
 
 // The codeword of a word.
@@ -82,7 +80,7 @@ pub extern "C" fn dohvrin_weigh(order: OrderRecord, low: u64, high: u64) -> Host
 pub extern "C" fn dohvrin_encode(order: OrderRecord, low: u64, high: u64, output: &mut [u8]) -> u64
     ensures { (result, output.new) ≡ numbered (encode_call (order_in order) (high * 2 ^ 64 + low) output.old) }
 {
-    encoded(encode(order, make(low, high), output))
+    refusal_number(encode(order, make(low, high), output))
 }
 
 // The events of an order's code, into the lent table.
@@ -94,7 +92,7 @@ pub extern "C" fn dohvrin_collect(
 ) -> RowAnswer
     ensures { (result, event_tables events.new work.new) ≡ row_with (collect_call (order_in order) (event_tables events.old work.old)) }
 {
-    answered(collect(order, events, work))
+    collect(order, events, work).into()
 }
 
 // The order of a record.
@@ -102,7 +100,7 @@ pub extern "C" fn dohvrin_collect(
 pub extern "C" fn dohvrin_read_order(bytes: &[u8]) -> Reading
     ensures { result ≡ reading_of (read bytes.now) }
 {
-    read_order(bytes)
+    read_order(bytes).into()
 }
 
 // The paths of an order's code, into the lent tables.
@@ -116,7 +114,7 @@ pub extern "C" fn dohvrin_list(
 ) -> RowAnswer
     ensures { (result, path_tables events.new paths.new plain.new work.new) ≡ row_with (list_call (order_in order) (path_tables events.old paths.old plain.old work.old)) }
 {
-    answered(list(order, events, paths, plain, work))
+    list(order, events, paths, plain, work).into()
 }
 
 // The best check polynomial of an order, and how many share its counts.
@@ -131,7 +129,7 @@ pub extern "C" fn dohvrin_search(
 ) -> RowAnswer
     ensures { (result, search_tables events.new paths.new plain.new undetected.new work.new) ≡ row_with (search_call (order_in order) (search_tables events.old paths.old plain.old undetected.old work.old)) }
 {
-    answered(search(order, events, paths, plain, undetected, work))
+    search(order, events, paths, plain, undetected, work).into()
 }
 
 // The best check polynomial for words of `bits` bits, with the events of the order's own length.
@@ -147,7 +145,7 @@ pub extern "C" fn dohvrin_quote(
 ) -> RowAnswer
     ensures { (result, search_tables events.new paths.new plain.new undetected.new work.new) ≡ row_with (quote_call (order_in order) bits (search_tables events.old paths.old plain.old undetected.old work.old)) }
 {
-    answered(quote(order, bits, events, paths, plain, undetected, work))
+    quote(order, bits, events, paths, plain, undetected, work).into()
 }
 
 // One check polynomial for a set of lengths, the longest first.
@@ -163,7 +161,7 @@ pub extern "C" fn dohvrin_search_set(
 ) -> RowAnswer
     ensures { (result, search_tables events.new paths.new plain.new undetected.new work.new) ≡ row_with (set_call (order_in order) lengths.now (search_tables events.old paths.old plain.old undetected.old work.old)) }
 {
-    answered(search_set(order, lengths, events, paths, plain, undetected, work))
+    search_set(order, lengths, events, paths, plain, undetected, work).into()
 }
 
 // The undetected counts of one polynomial.
@@ -179,7 +177,7 @@ pub extern "C" fn dohvrin_count(
 ) -> RowAnswer
     ensures { (result, search_tables events.new paths.new plain.new undetected.new work.new) ≡ row_with (count_call (order_in order) polynomial (search_tables events.old paths.old plain.old undetected.old work.old)) }
 {
-    answered(count(order, polynomial, events, paths, plain, undetected, work))
+    count(order, polynomial, events, paths, plain, undetected, work).into()
 }
 
 // The words of one weight, from 1 on, in a path table.
@@ -187,13 +185,22 @@ pub extern "C" fn dohvrin_count(
 pub extern "C" fn dohvrin_part(table: &[u64], counts: &[u64], w: u64) -> PartAnswer
     ensures { result ≡ part_answer counts.now w table.now }
 {
-    let mut refusal = 0;
-    let words = part(table, counts, w, &mut refusal);
-    if refusal != 0 {
-        return part_answer(10, 0, 0);
+    match part(table, counts, w) {
+        Ok(words) => {
+            let limit = (table.len() / 2) as u64;
+            let before = paths_to(counts, w as usize - 1, limit).unwrap();
+            PartAnswer {
+                refusal: 0,
+                start: 2 * before,
+                numbers: words.len() as u64,
+            }
+        }
+        Err(refusal) => PartAnswer {
+            refusal: u64::from(refusal),
+            start: 0,
+            numbers: 0,
+        },
     }
-    let before = paths_to(counts, w as usize - 1, (table.len() / 2) as u64);
-    part_answer(0, 2 * before, words.len() as u64)
 }
 
 // The text of what a call answered for an order: a row, or a refusal.
@@ -207,7 +214,7 @@ pub extern "C" fn dohvrin_row_text(
 ) -> HostAnswer
     ensures { (result, text.new) ≡ told_with number_answer (row_call (order_in order) (answer_in row) plain.now undetected.now text.old) }
 {
-    written(write_row(order, answer_of(row), plain, undetected, text))
+    write_row(order, row.into(), plain, undetected, text).into()
 }
 
 // The text of a refusal.
@@ -215,5 +222,5 @@ pub extern "C" fn dohvrin_row_text(
 pub extern "C" fn dohvrin_refusal_text(number: u64, text: &mut [u8]) -> HostAnswer
     ensures { (result, text.new) ≡ told_with number_answer (refusal_call number text.old) }
 {
-    written(write_refusal(number, text))
+    write_refusal(number, text).into()
 }

@@ -10,9 +10,10 @@ fn drop_some() -> bool {
 
 // Reads what is left. Nothing says that an input ends, so the turns are counted, from a number that no run uses up.
 fn drop_rest() {
-    let mut turns = u64::MAX;
-    while turns > 0 && drop_some() {
-        turns -= 1;
+    for _ in 0..u64::MAX {
+        if !drop_some() {
+            break;
+        }
     }
 }
 

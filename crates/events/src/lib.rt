@@ -1,8 +1,10 @@
 #![tactic(auto)]
 // The entries of the event table: one is read, one is stored, all are cleared, and those of few steps are counted.
-ghost use Rattle.std.specs.Prelude.{◌≡◌, ◌+◌, ◌≤◌, ◌<◌, ◌^◌, length, get_or, set, replicate};
+ghost use Rattle.std.specs.Prelude.{◌≡◌, ◌≤◌, ◌<◌, length, get_or, set, replicate};
 ghost use Rattle.events.specs.Events.{no_event};
-ghost use Rattle.events.specs.Model.Counting.{count_within, one_more};
+ghost use Rattle.events.specs.Model.Counting.{count_within};
+
+use lists::clear;
 
 // An entry of the event table: document 01's record of state, length, weight and the input in two halves, low half first.
 #[repr(C)]
@@ -14,6 +16,15 @@ pub struct Event {
     pub low: u64,
     pub high: u64,
 }
+
+// The record of zeros, which stands where there is no event.
+pub const NO_EVENT: Event = Event {
+    state: 0,
+    length: 0,
+    weight: 0,
+    low: 0,
+    high: 0,
+};
 
 pub fn event_at(events: &[Event], k: usize) -> Event
     requires { k < length events.now }
@@ -32,43 +43,12 @@ pub fn put_event(table: &mut [Event], at: usize, e: Event)
 pub fn clear_events(table: &mut [Event])
     ensures { table.new ≡ replicate (length table.old) no_event }
 {
-    let zero = Event {
-        state: 0,
-        length: 0,
-        weight: 0,
-        low: 0,
-        high: 0,
-    };
-    let size = table.len();
-    let mut i = 0;
-    while i < size {
-        put_event(table, i, zero);
-        i += 1;
-    }
+    clear(table, NO_EVENT);
 }
 
-// One more, where e has at most so many steps.
-fn one_more(found: usize, e: Event, steps: u64) -> usize
-    requires { found + 1 < 2 ^ 64 }
-    ensures { result ≡ one_more found e steps }
+// How many of the entries have at most so many steps.
+pub fn count_within(events: &[Event], steps: u64) -> usize
+    ensures { result ≡ count_within events.now (length events.now) steps }
 {
-    if e.length <= steps {
-        return found + 1;
-    }
-    found
-}
-
-// How many of the first n entries have at most so many steps.
-pub fn count_within(events: &[Event], n: usize, steps: u64) -> usize
-    requires { n ≤ length events.now }
-    ensures { result ≡ count_within events.now n steps }
-{
-    let mut found = 0;
-    let mut k = 0;
-    while k < n {
-        let e = event_at(events, k);
-        found = one_more(found, e, steps);
-        k += 1;
-    }
-    found
+    events.iter().filter(|e| e.length <= steps).count()
 }

@@ -3,4 +3,3 @@ pub mod Settled
 pub mod Weights
 pub mod Filled
 pub mod Standing
-pub mod Stages

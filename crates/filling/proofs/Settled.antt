@@ -1,24 +1,13 @@
 -- What settling a weight leaves, where the table took its words and where it did not.
 -- Assumes nothing.
-use Prim.Native.Nat.{ℕ, ◌+◌, ◌-◌, ◌/◌, ◌≤◌, ◌<◌}
-use native.Mathlib.Omega.{arith}
+use Prim.Native.Nat.{ℕ, ◌-◌, ◌/◌, ◌≤◌, ◌<◌}
 use mathlib.Core.Path.{◌≡◌, sym, ap}
-use mathlib.Core.Bool.{Bool, true, false, cond}
+use mathlib.Core.Bool.{Bool, cond}
 use mathlib.Core.List.{List}
-use lib.Dec.{leb}
 use lib.ListN.{length, set}
 use borrow.Author.Tests.{le-leb, lt-leb}
 use Rattle.sort.specs.Model.Sort.{sorted_part}
-use Rattle.filling.specs.Model.Filling.{settled_paths, settled_counts, later_weight}
-
-module _ (w d next room : ℕ) where
-  pub later_none : room < next → d ≡ later_weight w d next room
-  unfolding later_weight
-  later_none h = sym (ap (λ (b : Bool). cond b (w + 1) d) (lt-leb next room h))
-
-  pub later_next : next ≤ room → w + 1 ≡ later_weight w d next room
-  unfolding later_weight
-  later_next h = sym (ap (λ (b : Bool). cond b (w + 1) d) (le-leb next room h))
+use Rattle.filling.specs.Model.Filling.{settled_paths, settled_counts}
 
 module _ (paths counts : List ℕ) (at next w : ℕ) where
   pub settled_full : length paths / 2 < next → (paths ≡ settled_paths paths at next) × (counts ≡ settled_counts (length paths) counts at next w)
@@ -34,12 +23,3 @@ module _ (paths counts : List ℕ) (at next w : ℕ) where
     sym (ap (λ (b : Bool). cond b (sorted_part paths at next) paths) (le-leb next (length paths / 2) h)),
     sym (ap (λ (b : Bool). cond b (set counts (w - 1) (next - at)) counts) (le-leb next (length paths / 2) h)),
   )
-
--- the weight after w is a later one, and at most d
-pub later_bounds : (w d next room : ℕ) → w < d → (w < later_weight w d next room) × (later_weight w d next room ≤ d)
-unfolding later_weight
-later_bounds w d next room h = by (leb next room)
-  where
-    by : (b : Bool) → (w < cond b (w + 1) d) × (cond b (w + 1) d ≤ d)
-    by true = (omega arith, omega arith)
-    by false = (h, omega arith)

@@ -1,11 +1,11 @@
--- Weight by weight, from 1 on: what stands in the path table and in the counts before weight w (`Held`), what one weight adds, and what has been found once the
--- table is known to be too small.
+-- Weight by weight, from 1 on: what stands in the path table and in the counts before weight w (`Held`), what one weight adds, and that there are too many paths
+-- where the table does not take its words.
 -- Assumes nothing.
 use Prim.Native.Nat.{ℕ, zero, suc, ◌+◌, ◌-◌, ◌*◌, ◌/◌, ◌≤◌, ◌<◌}
 use native.Mathlib.Nat.{add-zero}
 use native.Mathlib.Omega.{arith}
 use mathlib.Core.Path.{◌≡◌, refl, sym, ap, ap₂, ◌∙◌, subst}
-use mathlib.Core.Logic.{◌⊎◌, inl, inr}
+use mathlib.Core.Logic.{inl, inr}
 use mathlib.Core.List.{List, [], ◌∷◌, ◌++◌, map, flat_map, map-append, append_assoc}
 use lib.ListN.{length, set, replicate, length-append, length-map}
 use Rattle.lists.specs.Lists.{up_from, padded}
@@ -26,9 +26,9 @@ use Rattle.sort.specs.Model.Sort.{sorted, sorted_part}
 use Rattle.sort.specs.Model.Steps.{Narrow}
 use Rattle.sort.proofs.Sorting.{sorted_within, within_sorted, sorted_increasing}
 use Rattle.sort.proofs.Parts.{narrow_appended, sorted_part_appended}
-use Rattle.filling.specs.Model.Filling.{settled_paths, settled_counts, later_weight, Settles}
+use Rattle.filling.specs.Model.Filling.{settled_paths, settled_counts, Settles}
 use Rattle.filling.proofs.Ordered.{Ordered}
-use Rattle.filling.proofs.Settled.{later_none, later_next, settled_full, settled_sorted}
+use Rattle.filling.proofs.Settled.{settled_sorted}
 
 -- one number more after those of a list that is made up by zeros
 set-padded : (size : ℕ) (xs : List ℕ) (x : ℕ) → length xs < size → set (padded size 0 xs) (length xs) x ≡ padded size 0 (xs ++ (x ∷ []))
@@ -113,14 +113,6 @@ module _ (o : Order) (ok : Ordered o) where
       pub place : at ≡ length (words_to w)
       pub paths_are : ps ≡ padded size 0 (flat_map halves (words_to w))
       pub counts_are : cs ≡ padded csize 0 (counts_to w)
-
-    -- more than the table takes
-    pub record Full (w at : ℕ) (ps cs : List ℕ) : Type 0 where
-      pub last : w ≡ o.d
-      pub past : at ≡ size / 2 + 1
-      pub too_many : size / 2 < length (paths o)
-      pub paths_size : length ps ≡ size
-      pub counts_size : length cs ≡ csize
 
     pub held_first : Held 1 0 (replicate size 0) (replicate csize 0)
     unfolding words_to counts_to padded up_from flat_map
@@ -219,6 +211,10 @@ module _ (o : Order) (ok : Ordered o) where
             let e = ap (λ (x : ℕ). length (words_to x)) rest ∙ ap length all_words in
             omega arith
 
+      -- the place tells which
+      room_if : next ≤ size / 2 → length ws + length us ≤ size / 2
+      room_if i = elim (lt_or_ge (size / 2) (length ws + length us)) [ inl past ↦ absurd (let p = next_past past in omega arith) | inr room ↦ room ]
+
       pub settles : Settles ps' cs at next w o.N
       settles =
           let s = size_after in
@@ -226,33 +222,14 @@ module _ (o : Order) (ok : Ordered o) where
           record {
             some_weight = h.begun;
             counted = omega (arith, h.begun);
-            narrow = λ l. elim (lt_or_ge (size / 2) (length ws + length us)) [
-              | inl past ↦ let p = next_past past in absurd (over (length ps') size next s l p)
-              | inr room ↦ narrow room
-            ];
+            narrow = λ l. narrow (room_if (rw s at l));
           }
-        where
-          over : (a b n : ℕ) → a ≡ b → n ≤ a / 2 → n ≡ b / 2 + 1 → ⊥
-          over a b n e l p = omega (arith, ap (λ (x : ℕ). x / 2) e, l, p)
 
-      -- the table and the counts after weight w, and the weight to go on with
-      pub weight_done : Held (later_weight w o.d next (size / 2)) next (settled_paths ps' at next) (settled_counts (length ps') cs at next w)
-          ⊎ Full (later_weight w o.d next (size / 2)) next (settled_paths ps' at next) (settled_counts (length ps') cs at next w)
-      weight_done = elim (lt_or_ge (size / 2) (length ws + length us)) [
-        | inl past ↦
-            let p = next_past past in
-            let full : size / 2 < next = omega arith in
-            let f = settled_full ps' cs at next w (subst (λ (x : ℕ). x / 2 < next) (sym size_after) full) in
-            inr record {
-              last = sym (later_none w o.d next (size / 2) full);
-              past = p;
-              too_many = more_paths past;
-              paths_size = sym (ap length f.0) ∙ size_after;
-              counts_size = sym (ap length f.1) ∙ (held_sizes w at ps cs (omega arith) h).1;
-            }
-        | inr room ↦
-            let i : next ≤ size / 2 = subst (λ (x : ℕ). x ≤ size / 2) (sym (next_is room)) room in
-            let f = settled_sorted ps' cs at next w (subst (λ (x : ℕ). next ≤ x / 2) (sym size_after) i) in
-            inl (subst (λ (x : ℕ). Held x next (settled_paths ps' at next) (settled_counts (length ps') cs at next w)) (later_next w o.d next (size / 2) i)
-            (subst (λ (x : List ℕ). Held (w + 1) next x (settled_counts (length ps') cs at next w)) f.0 (subst (λ (x : List ℕ). Held (w + 1) next (sorted_part ps' at next) x) f.1 (held_next room))))
-      ]
+      -- the table and the counts after weight w
+      pub held_after : next ≤ size / 2 → Held (w + 1) next (settled_paths ps' at next) (settled_counts (length ps') cs at next w)
+      held_after i =
+          let f = settled_sorted ps' cs at next w (rw size_after i) in
+          rw (sym f.0, sym f.1) (held_next (room_if i))
+
+      pub too_many : size / 2 < next → size / 2 < length (paths o)
+      too_many past = elim (lt_or_ge (size / 2) (length ws + length us)) [ inl full ↦ more_paths full | inr room ↦ absurd (let n = next_is room in omega arith) ]

@@ -11,10 +11,10 @@ fn remainder_by(a: u64, b: u64) -> u64
     requires { 0 < b }
     ensures { result ≡ remainder (degree b) b a }
 {
-    let zeros = u64::leading_zeros(b);
+    let zeros = b.leading_zeros();
     let mut r = a;
-    while u64::leading_zeros(r) <= zeros {
-        r = r ^ (b << (zeros - u64::leading_zeros(r)));
+    while r.leading_zeros() <= zeros {
+        r ^= b << (zeros - r.leading_zeros());
     }
     r
 }
@@ -37,10 +37,8 @@ fn gcd_of_all(polynomials: &[u64]) -> u64
     ensures { result ≡ gcd_all polynomials.now }
 {
     let mut d = 0;
-    let mut i = 0;
-    while i < polynomials.len() {
-        d = gcd(d, polynomials[i]);
-        i += 1;
+    for g in polynomials {
+        d = gcd(d, *g);
     }
     d
 }

@@ -3,21 +3,18 @@
 use Prim.Native.Nat.{ℕ, suc, ◌-◌, ◌≤◌, ◌<◌}
 use native.Mathlib.Omega.{arith}
 use mathlib.Core.Path.{◌≡◌, refl, sym, ap, ap₂, ◌∙◌, subst}
-use mathlib.Core.Logic.{◌⊎◌, inl, inr, ⊎_elim}
-use mathlib.Core.Bool.{Bool, true, cond}
+use mathlib.Core.Logic.{◌⊎◌, ◌≢◌, inl, inr, ⊎_elim}
+use mathlib.Core.Bool.{Bool, true}
 use mathlib.Core.List.{List, [], ◌∷◌, ◌++◌, Memᴰ}
 use lib.ListN.{length, replicate, drop}
-use borrow.Author.Tests.{le-leb, lt-leb}
 use Rattle.lists.specs.Lists.{padded, cleared}
-use Rattle.lists.specs.Lists.{up_from}
 use Rattle.lists.proofs.Tests.{lt_or_ge}
-use Rattle.lists.proofs.Lengths.{length-map-up_from}
 use Rattle.order.specs.Order.{Order, with_length}
 use Rattle.order.specs.Answer.{Answer, accepted, refused, refusal_number}
 use Rattle.order.specs.Answers.{order_in}
 use Rattle.events.specs.declared.Event.{Event}
 use Rattle.events.specs.Events.{events, event_table}
-use Rattle.paths.specs.Paths.{paths, plain_counts, path_table, path_room}
+use Rattle.paths.specs.Paths.{paths, plain_counts, path_table}
 use Rattle.collection.specs.Model.Gathered.{AllEvents}
 use Rattle.filling.specs.Model.Filling.{AllPaths}
 use Rattle.undetected.specs.Undetected.{undetected_counts}
@@ -32,21 +29,17 @@ use Rattle.narrowing.specs.Narrowed.{narrowed, longest, set_choice}
 use Rattle.narrowing.specs.Model.Firsts.{Ranked, ToAdd}
 use Rattle.narrowing.proofs.Narrowed.{some_left}
 use Rattle.narrowing.proofs.Ranked.{ranked_to_add, ranked_more, kept_narrowed}
-use Rattle.lengths.specs.declared.Shorter.{Shorter}
-use Rattle.lengths.specs.declared.Noted.{Noted}
-use Rattle.lengths.specs.Shorter.{length_at, shorter_in}
+use Rattle.narrowing.specs.declared.Firsts.{Firsts}
 use Rattle.lengths.specs.Model.Noted.{AllFit, OneTooMany}
 use Rattle.lengths.specs.Shorter.{for_each}
 use Rattle.lengths.proofs.Listed.{readable_left, divided_left}
-use Rattle.row.specs.declared.Answered.{Answered}
-use Rattle.row.specs.declared.Answered.TheVariants as A
 use Rattle.row.specs.declared.Row.{Row}
 use Rattle.jobs.specs.declared.Job.{Job}
 use Rattle.jobs.specs.declared.Job.TheVariants as J
 use Rattle.jobs.specs.declared.Plan.{Plan}
-use Rattle.row.specs.Answered.{row, answered_as}
+use Rattle.row.specs.Answered.{row}
 use Rattle.jobs.specs.Jobs.{SearchTables, search_tables, cleared_search, filled_search, chosen, collected, listed, counted, rows_of, made, ran}
-use Rattle.jobs.specs.Model.Steps.{row_order, only_events, listed_before, ToList, ToChooseFor, ToServe, JobAsks, ToFinishOver, LeftBy, ToNarrow, ToFinish, ChoseOf, Finished, MadeAs}
+use Rattle.jobs.specs.Model.Steps.{row_order, listed_before, ToList, ToChooseFor, ToServe, JobAsks, ToFinishOver, LeftBy, ToNarrow, ToFinish, ChoseOf, Finished, MadeAs}
 use Rattle.jobs.proofs.Fits.{fit_or_not, too_many_events, too_many_paths, all_fit}
 
 abbrev Outcome : Type 0
@@ -56,20 +49,13 @@ Outcome = Answer Row × SearchTables
 abbrev shared_by : (ℕ → ℕ) → Choice → Choice
 shared_by f c = record { polynomial = c.polynomial; shared = f c.shared; undetected = c.undetected }
 
-few_served : (s : Shorter) (o : Order) → ToServe s o → length (shorter_in s) ≤ 7
-unfolding shorter_in
-few_served s o serve = omega (arith, serve.few, length-map-up_from (length_at s) 0 s.count)
-
 -- alone, it is the best
 alone_chosen : (counts : ℕ → List ℕ) (p : ℕ) → shared_by (λ n. 0) (choice_among counts (p ∷ [])) ≡ record { polynomial = p; shared = 0; undetected = counts p }
 unfolding choice_among first_of
 alone_chosen counts p = ap (λ (ps : List ℕ). record { polynomial = first_of ps; shared = 0; undetected = counts (first_of ps) }) (best_alone counts p)
 
 -- events collected for l, a row for o
-module _ (s : Shorter) (l o : Order) (t : SearchTables) where
-  abbrev Ns : List ℕ
-  Ns = shorter_in s
-
+module _ (Ns : List ℕ) (l o : Order) (t : SearchTables) where
   abbrev ne : ℕ
   ne = length t.events
 
@@ -118,10 +104,10 @@ module _ (s : Shorter) (l o : Order) (t : SearchTables) where
 
   module _ (es : List Event) (ls ms us : List ℕ) (n at : ℕ) (events-left : AllEvents l t.events es n) (zeros : us ≡ cleared 0 t.work) where
     -- events alone
-    pub only_collected : (r : Answered) → r ≡ A.Row (row n 0 0 0) → ◌≡◌ {A = Outcome} (answered_as r, search_tables es t.paths t.plain t.undetected us) (made J.Collect Ns l o t)
+    pub only_collected : (r : Row) → r ≡ row n 0 0 0 → ◌≡◌ {A = Outcome} (accepted r, search_tables es t.paths t.plain t.undetected us) (made J.Collect Ns l o t)
     unfolding made collected
     only_collected r e =
-        ap (λ (x : Answered). (answered_as x, search_tables es t.paths t.plain t.undetected us)) e
+        ap (λ (x : Row). (accepted x, search_tables es t.paths t.plain t.undetected us)) e
         ∙ (λ i. (accepted (row (events-left.number i) 0 0 0), search_tables (events-left.table i) t.paths t.plain t.undetected (zeros i)))
 
     module _ (paths-left : AllPaths o t.paths ls t.plain ms at) (few : ℕ) (is-few : few ≡ length (events o)) where
@@ -139,13 +125,13 @@ module _ (s : Shorter) (l o : Order) (t : SearchTables) where
           → done after ≡ search_tables (event_table ne l) (path_table np o) (padded nc 0 (plain_counts o)) list (cleared 0 t.work)
       tables_left after list e = λ i. search_tables (events-left.table i) (paths-left.words i) (paths-left.plain_counts_are i) (e i) (zeros i)
 
-      told : (r : Answered) (p s : ℕ) → r ≡ A.Row (row few at p s) → answered_as r ≡ accepted (row (length (events o)) (length (paths o)) p s)
-      told r p s e = ap answered_as e ∙ (λ i. accepted (row (is-few i) (paths-left.number i) p s))
+      told : (r : Row) (p s : ℕ) → r ≡ row few at p s → accepted r ≡ accepted (row (length (events o)) (length (paths o)) p s)
+      told r p s e = ap (λ (x : Row). accepted x) e ∙ (λ i. accepted (row (is-few i) (paths-left.number i) p s))
 
       paired : {a b : Answer Row} {x y : SearchTables} → a ≡ b → x ≡ y → ◌≡◌ {A = Outcome} (a, x) (b, y)
       paired e f = ap₂ (λ a x. (a, x)) e f
 
-      pub only_listed : (r : Answered) (after : List ℕ) → after ≡ t.undetected → r ≡ A.Row (row few at 0 0) → ◌≡◌ {A = Outcome} (answered_as r, done after) (made J.List Ns l o t)
+      pub only_listed : (r : Row) (after : List ℕ) → after ≡ t.undetected → r ≡ row few at 0 0 → ◌≡◌ {A = Outcome} (accepted r, done after) (made J.List Ns l o t)
       unfolding made listed
       only_listed r after same e = paired (told r 0 0 e) (tables_left after t.undetected same)
 
@@ -173,8 +159,8 @@ module _ (s : Shorter) (l o : Order) (t : SearchTables) where
             ∙ counted-cleared o.m p ls ms (o.d - 1) nu may.undetected_room ∙ ap (padded nu 0) (divided p)
 
         -- the best of those offered is told, and so many
-        pub is_chosen : (ps : List ℕ) (shared : ℕ → ℕ) (r : Answered) (after : List ℕ) → ChoseOf ps shared o.m (o.d - 1) few at ls ms t.undetected after r
-            → ◌≡◌ {A = Outcome} (answered_as r, done after) (chosen l o t (shared_by shared (choice_among (undetected_counts o) ps)))
+        pub is_chosen : (ps : List ℕ) (shared : ℕ → ℕ) (r : Row) (after : List ℕ) → ChoseOf ps shared o.m (o.d - 1) few at ls ms t.undetected after r
+            → ◌≡◌ {A = Outcome} (accepted r, done after) (chosen l o t (shared_by shared (choice_among (undetected_counts o) ps)))
         unfolding chosen filled_search
         is_chosen ps shared r after (x, chose, e) =
             paired (told r x.polynomial (shared x.shared) e) (tables_left after _ (chosen_counts o divided chose ∙ laid_left x.polynomial))
@@ -182,24 +168,24 @@ module _ (s : Shorter) (l o : Order) (t : SearchTables) where
 
         -- ---- of all
 
-        pub best_of_all : (r : Answered) (after : List ℕ) → ChoseOf (offered_by o.m (replicate 2048 true)) (λ n. n) o.m (o.d - 1) few at ls ms t.undetected after r
-            → ◌≡◌ {A = Outcome} (answered_as r, done after) (made J.Choose Ns l o t)
+        pub best_of_all : (r : Row) (after : List ℕ) → ChoseOf (offered_by o.m (replicate 2048 true)) (λ n. n) o.m (o.d - 1) few at ls ms t.undetected after r
+            → ◌≡◌ {A = Outcome} (accepted r, done after) (made J.Choose Ns l o t)
         unfolding made choice
         best_of_all r after chose =
             is_chosen _ (λ n. n) r after chose ∙ ap (λ (ps : List ℕ). chosen l o t (choice_among (undetected_counts o) ps)) (all_offered o.m degree.at_most_12)
 
         -- ---- of one, whose best is itself
 
-        pub best_of_one : (p : ℕ) (r : Answered) (after : List ℕ) → ChoseOf (p ∷ []) (λ n. 0) o.m (o.d - 1) few at ls ms t.undetected after r
-            → ◌≡◌ {A = Outcome} (answered_as r, done after) (made (J.Count p) Ns l o t)
+        pub best_of_one : (p : ℕ) (r : Row) (after : List ℕ) → ChoseOf (p ∷ []) (λ n. 0) o.m (o.d - 1) few at ls ms t.undetected after r
+            → ◌≡◌ {A = Outcome} (accepted r, done after) (made (J.Count p) Ns l o t)
         unfolding made counted
         best_of_one p r after chose =
             is_chosen (p ∷ []) (λ n. 0) r after chose ∙ ap (λ (c : Choice). chosen l o t (shared_by (λ n. 0) c)) (alone_chosen (undetected_counts o) p)
 
         -- ---- of those left by a set of lengths
 
-        module _ (noted : Noted) (ranked : Ranked o Ns noted.firsts) (few-lengths : length Ns ≤ 7) where
-          to_add : ToAdd o.N (o.d - 1) o.m ls ms noted.firsts
+        module _ (noted : Firsts) (ranked : Ranked o Ns noted) (few-lengths : length Ns ≤ 7) where
+          to_add : ToAdd o.N (o.d - 1) o.m ls ms noted
           to_add = let light = may.list.order.threshold in ranked_to_add o ranked few-lengths readable degree light.some_weight light.at_most_64
 
           left_is : (flags : List Bool) → LeftBy o.m (o.d - 1) noted ls ms flags → offered_by o.m flags ≡ narrowed o (o.N ∷ Ns) (candidates o.m)
@@ -216,8 +202,8 @@ module _ (s : Shorter) (l o : Order) (t : SearchTables) where
                 some_offered_of o.m flags (subst (Memᴰ p) (sym (left_is flags left)) member);
           }
 
-          pub best_left : (r : Answered) (after : List ℕ) (flags : List Bool) → LeftBy o.m (o.d - 1) noted ls ms flags
-              → ChoseOf (offered_by o.m flags) (λ n. n) o.m (o.d - 1) few at ls ms t.undetected after r → ◌≡◌ {A = Outcome} (answered_as r, done after) (made J.ChooseFor Ns l o t)
+          pub best_left : (r : Row) (after : List ℕ) (flags : List Bool) → LeftBy o.m (o.d - 1) noted ls ms flags
+              → ChoseOf (offered_by o.m flags) (λ n. n) o.m (o.d - 1) few at ls ms t.undetected after r → ◌≡◌ {A = Outcome} (accepted r, done after) (made J.ChooseFor Ns l o t)
           unfolding made set_choice longest first_of with_length
           best_left r after flags left chose =
               is_chosen _ (λ n. n) r after chose ∙ ap (λ (ps : List ℕ). chosen l o t (choice_among (undetected_counts o) ps)) (left_is flags left)
@@ -225,73 +211,66 @@ module _ (s : Shorter) (l o : Order) (t : SearchTables) where
       -- ---- by the job
 
       -- the shorter lengths that are listed have been noted
-      module _ (job : Job) (a : JobAsks job s o t.plain t.undetected) (noted : Noted) (ranked : Ranked o (shorter_in (listed_before job s)) noted.firsts) where
+      module _ (job : Job) (a : JobAsks job Ns o t.plain t.undetected) (noted : Firsts) (ranked : Ranked o (listed_before job Ns) noted) where
         pub to_finish : ToFinish job o.N o.m (o.d - 1) noted ls ms t.undetected
         unfolding JobAsks ToFinish listed_before
         to_finish = by job a ranked
           where
-            by : (job : Job) → JobAsks job s o t.plain t.undetected → Ranked o (shorter_in (listed_before job s)) noted.firsts → ToFinish job o.N o.m (o.d - 1) noted ls ms t.undetected
+            by : (job : Job) → JobAsks job Ns o t.plain t.undetected → Ranked o (listed_before job Ns) noted → ToFinish job o.N o.m (o.d - 1) noted ls ms t.undetected
             by J.Collect a k = tt
             by J.List a k = tt
             by J.Choose a k = over a
-            by J.ChooseFor a k = (over a.0, to_narrow a.0 noted k (few_served s o a.1))
+            by J.ChooseFor a k = (over a.0, to_narrow a.0 noted k a.1.few)
             by (J.Count p) a k = (over a.0, a.1)
 
-        pub is_done : only_events job ≡ 0 → (r : Answered) (after : List ℕ) → Finished job o.m (o.d - 1) noted few at ls ms t.undetected after r → ◌≡◌ {A = Outcome} (answered_as r, done after) (made job Ns l o t)
-        unfolding JobAsks Finished only_events listed_before
+        pub is_done : job ≢ J.Collect → (r : Row) (after : List ℕ) → Finished job o.m (o.d - 1) noted few at ls ms t.undetected after r → ◌≡◌ {A = Outcome} (accepted r, done after) (made job Ns l o t)
+        unfolding JobAsks Finished listed_before
         is_done = by job a ranked
           where
-            by : (job : Job) → JobAsks job s o t.plain t.undetected → Ranked o (shorter_in (listed_before job s)) noted.firsts → only_events job ≡ 0 → (r : Answered) (after : List ℕ)
-                → Finished job o.m (o.d - 1) noted few at ls ms t.undetected after r → ◌≡◌ {A = Outcome} (answered_as r, done after) (made job Ns l o t)
-            by J.Collect a k z r after f = absurd (omega (arith, z))
+            by : (job : Job) → JobAsks job Ns o t.plain t.undetected → Ranked o (listed_before job Ns) noted → job ≢ J.Collect → (r : Row) (after : List ℕ)
+                → Finished job o.m (o.d - 1) noted few at ls ms t.undetected after r → ◌≡◌ {A = Outcome} (accepted r, done after) (made job Ns l o t)
+            by J.Collect a k z r after f = absurd (z refl)
             by J.List a k z r after f = only_listed r after f.0 f.1
             by J.Choose a k z r after f = best_of_all a r after f
-            by J.ChooseFor a k z r after f = best_left a.0 noted k (few_served s o a.1) r after f.0 f.1 f.2
+            by J.ChooseFor a k z r after f = best_left a.0 noted k a.1.few r after f.0 f.1 f.2
             by (J.Count p) a k z r after f = best_of_one a.0 p r after f
 
 -- ---- what `make` shows of a plan at each of its ends
 
-pub lists : (job : Job) (s : Shorter) (o : Order) (plain undetected : List ℕ) → only_events job ≡ 0 → JobAsks job s o plain undetected → ToList o plain
-unfolding JobAsks only_events
-lists J.Collect s o plain undetected z a = absurd (omega (arith, z))
-lists J.List s o plain undetected z a = a
-lists J.Choose s o plain undetected z a = a.list
-lists J.ChooseFor s o plain undetected z a = a.0.list
-lists (J.Count p) s o plain undetected z a = a.0.list
+pub lists : (job : Job) (Ns : List ℕ) (o : Order) (plain undetected : List ℕ) → job ≢ J.Collect → JobAsks job Ns o plain undetected → ToList o plain
+unfolding JobAsks
+lists J.Collect Ns o plain undetected z a = absurd (z refl)
+lists J.List Ns o plain undetected z a = a
+lists J.Choose Ns o plain undetected z a = a.list
+lists J.ChooseFor Ns o plain undetected z a = a.0.list
+lists (J.Count p) Ns o plain undetected z a = a.0.list
 
 -- what a job asks where shorter lengths are listed
-pub served : (job : Job) (s : Shorter) (o : Order) (plain undetected : List ℕ) → JobAsks job s o plain undetected → 1 ≤ (listed_before job s).count → ToChooseFor o plain undetected × ToServe s o × (listed_before job s ≡ s)
+pub served : (job : Job) (Ns : List ℕ) (o : Order) (plain undetected : List ℕ) → JobAsks job Ns o plain undetected → 1 ≤ length (listed_before job Ns)
+    → ToChooseFor o plain undetected × ToServe Ns o × (listed_before job Ns ≡ Ns)
 unfolding JobAsks listed_before
-served J.Collect s o plain undetected a h = absurd (omega (arith, h))
-served J.List s o plain undetected a h = absurd (omega (arith, h))
-served J.Choose s o plain undetected a h = absurd (omega (arith, h))
-served J.ChooseFor s o plain undetected a h = (a.0, a.1, refl)
-served (J.Count p) s o plain undetected a h = absurd (omega (arith, h))
+served J.Collect Ns o plain undetected a h = absurd (omega (arith, h))
+served J.List Ns o plain undetected a h = absurd (omega (arith, h))
+served J.Choose Ns o plain undetected a h = absurd (omega (arith, h))
+served J.ChooseFor Ns o plain undetected a h = (a.0, a.1, refl)
+served (J.Count p) Ns o plain undetected a h = absurd (omega (arith, h))
 
-pub few_before : (job : Job) (s : Shorter) (o : Order) (plain undetected : List ℕ) → JobAsks job s o plain undetected → (listed_before job s).count ≤ 7
+pub few_before : (job : Job) (Ns : List ℕ) (o : Order) (plain undetected : List ℕ) → JobAsks job Ns o plain undetected → length (listed_before job Ns) ≤ 7
 unfolding JobAsks listed_before
-few_before J.Collect s o plain undetected a = omega arith
-few_before J.List s o plain undetected a = omega arith
-few_before J.Choose s o plain undetected a = omega arith
-few_before J.ChooseFor s o plain undetected a = a.1.few
-few_before (J.Count p) s o plain undetected a = omega arith
-
-is_collect : (job : Job) → (only_events job ≡ 0 → ⊥) → job ≡ J.Collect
-unfolding only_events
-is_collect J.Collect n = refl
-is_collect J.List n = absurd (n refl)
-is_collect J.Choose n = absurd (n refl)
-is_collect J.ChooseFor n = absurd (n refl)
-is_collect (J.Count p) n = absurd (n refl)
+few_before J.Collect Ns o plain undetected a = omega arith
+few_before J.List Ns o plain undetected a = omega arith
+few_before J.Choose Ns o plain undetected a = omega arith
+few_before J.ChooseFor Ns o plain undetected a = a.1.few
+few_before (J.Count p) Ns o plain undetected a = omega arith
 
 -- where paths are listed, those of the row are
-row_first : (job : Job) (s : Shorter) (o : Order) → only_events job ≡ 0 → rows_of job (shorter_in s) o ≡ o ∷ for_each (shorter_in (listed_before job s)) o
-unfolding only_events rows_of listed_before shorter_in up_from for_each
-row_first J.Collect s o z = absurd (omega (arith, z))
-row_first J.List s o z = refl
-row_first J.Choose s o z = refl
-row_first J.ChooseFor s o z = refl
-row_first (J.Count p) s o z = refl
+row_first : (job : Job) (Ns : List ℕ) (o : Order) → job ≢ J.Collect → rows_of job Ns o ≡ o ∷ for_each (listed_before job Ns) o
+unfolding rows_of listed_before for_each
+row_first J.Collect Ns o z = absurd (z refl)
+row_first J.List Ns o z = refl
+row_first J.Choose Ns o z = refl
+row_first J.ChooseFor Ns o z = refl
+row_first (J.Count p) Ns o z = refl
 
 module _ (plan : Plan) (t : SearchTables) where
   abbrev longer : Order
@@ -300,42 +279,40 @@ module _ (plan : Plan) (t : SearchTables) where
   abbrev o : Order
   o = row_order plan
 
+  abbrev shorter : List ℕ
+  shorter = plan.shorter.now
+
   -- the lengths that are listed besides
   abbrev others : List Order
-  others = for_each (shorter_in (listed_before plan.job plan.shorter)) o
+  others = for_each (listed_before plan.job shorter) o
 
-  pub made_as : (x : Answer Row) (left : SearchTables) → ◌≡◌ {A = Outcome} (x, left) (ran plan.job (shorter_in plan.shorter) longer o t) → MadeAs plan t x left
+  pub made_as : (x : Answer Row) (left : SearchTables) → ◌≡◌ {A = Outcome} (x, left) (ran plan.job shorter longer o t) → MadeAs plan t x left
   made_as x left e = record { answered = ap (λ (y : Outcome). y.0) e; leaves = λ _. ap (λ (y : Outcome). y.1) e }
 
-  refused_as : (k : ℕ) (r : Answered) (left : SearchTables) → r ≡ A.Refused (suc k) → ran plan.job (shorter_in plan.shorter) longer o t ≡ (refused (suc k), cleared_search t) → MadeAs plan t (answered_as r) left
+  refused_as : (k : ℕ) (left : SearchTables) → ran plan.job shorter longer o t ≡ (refused (suc k), cleared_search t) → MadeAs plan t (refused (suc k)) left
   unfolding refusal_number
-  refused_as k r left e h = record {
-    answered = ap answered_as e ∙ sym (ap (λ (y : Outcome). y.0) h);
-    leaves = λ z. let is = ap (λ (x : Answered). refusal_number (answered_as x)) e in absurd (omega arith);
-  }
+  refused_as k left h = record { answered = sym (ap (λ (y : Outcome). y.0) h); leaves = λ z. absurd (omega (arith, z)) }
 
-  pub as_13 : (r : Answered) (left : SearchTables) → r ≡ A.Refused 13 → length t.events < length (events longer) → MadeAs plan t (answered_as r) left
-  as_13 r left e h = refused_as 12 r left e (ran_13 plan.shorter longer o t plan.job h)
+  pub as_13 : (left : SearchTables) → length t.events < length (events longer) → MadeAs plan t (refused 13) left
+  as_13 left h = refused_as 12 left (ran_13 shorter longer o t plan.job h)
 
-  pub as_14 : (r : Answered) (left : SearchTables) → r ≡ A.Refused 14 → only_events plan.job ≡ 0 → length (events longer) ≤ length t.events → OneTooMany (length t.paths) (o ∷ others)
-      → MadeAs plan t (answered_as r) left
-  as_14 r left e z f h = refused_as 13 r left e (ran_14 plan.shorter longer o t f plan.job (subst (OneTooMany (length t.paths)) (sym (row_first plan.job plan.shorter o z)) h))
+  pub as_14 : (left : SearchTables) → plan.job ≢ J.Collect → length (events longer) ≤ length t.events → OneTooMany (length t.paths) (o ∷ others) → MadeAs plan t (refused 14) left
+  as_14 left z f h = refused_as 13 left (ran_14 shorter longer o t f plan.job (subst (OneTooMany (length t.paths)) (sym (row_first plan.job shorter o z)) h))
 
   module _ (es : List Event) (us : List ℕ) (n : ℕ) (events-left : AllEvents longer t.events es n) (zeros : us ≡ cleared 0 t.work) where
-    none_listed : plan.job ≡ J.Collect → AllFit (length t.paths) (rows_of plan.job (shorter_in plan.shorter) o)
+    none_listed : plan.job ≡ J.Collect → AllFit (length t.paths) (rows_of plan.job shorter o)
     unfolding rows_of AllFit
-    none_listed is = subst (λ (job : Job). AllFit (length t.paths) (rows_of job (shorter_in plan.shorter) o)) (sym is) tt
+    none_listed is = subst (λ (job : Job). AllFit (length t.paths) (rows_of job shorter o)) (sym is) tt
 
-    pub as_collected : (r : Answered) → r ≡ A.Row (row n 0 0 0) → (only_events plan.job ≡ 0 → ⊥) → MadeAs plan t (answered_as r) (search_tables es t.paths t.plain t.undetected us)
-    as_collected r e some =
-        let is = is_collect plan.job some in
-        made_as _ _ (only_collected plan.shorter longer o t es [] [] us n 0 events-left zeros r e
-        ∙ ap (λ (job : Job). made job (shorter_in plan.shorter) longer o t) (sym is) ∙ ran-made plan.shorter longer o t events-left.fits plan.job (none_listed is))
+    pub as_collected : (r : Row) → r ≡ row n 0 0 0 → plan.job ≡ J.Collect → MadeAs plan t (accepted r) (search_tables es t.paths t.plain t.undetected us)
+    as_collected r e is =
+        made_as _ _ (only_collected shorter longer o t es [] [] us n 0 events-left zeros r e
+        ∙ ap (λ (job : Job). made job shorter longer o t) (sym is) ∙ ran-made shorter longer o t events-left.fits plan.job (none_listed is))
 
-    pub as_done : (ls ms : List ℕ) (at : ℕ) → AllPaths o t.paths ls t.plain ms at → AllFit (length t.paths) others → (few : ℕ) → few ≡ length (events o) → only_events plan.job ≡ 0
-        → (a : JobAsks plan.job plan.shorter o t.plain t.undetected) (noted : Noted) → Ranked o (shorter_in (listed_before plan.job plan.shorter)) noted.firsts
-        → (r : Answered) (after : List ℕ) → Finished plan.job o.m (o.d - 1) noted few at ls ms t.undetected after r → MadeAs plan t (answered_as r) (search_tables es ls ms after us)
+    pub as_done : (ls ms : List ℕ) (at : ℕ) → AllPaths o t.paths ls t.plain ms at → AllFit (length t.paths) others → (few : ℕ) → few ≡ length (events o) → plan.job ≢ J.Collect
+        → (a : JobAsks plan.job shorter o t.plain t.undetected) (noted : Firsts) → Ranked o (listed_before plan.job shorter) noted
+        → (r : Row) (after : List ℕ) → Finished plan.job o.m (o.d - 1) noted few at ls ms t.undetected after r → MadeAs plan t (accepted r) (search_tables es ls ms after us)
     unfolding AllFit
     as_done ls ms at paths-left others-fit few is-few z a noted ranked r after f =
-        made_as _ _ (is_done plan.shorter longer o t es ls ms us n at events-left zeros paths-left few is-few plan.job a noted ranked z r after f
-        ∙ ran-made plan.shorter longer o t events-left.fits plan.job (subst (AllFit (length t.paths)) (sym (row_first plan.job plan.shorter o z)) (paths-left.fits, others-fit)))
+        made_as _ _ (is_done shorter longer o t es ls ms us n at events-left zeros paths-left few is-few plan.job a noted ranked z r after f
+        ∙ ran-made shorter longer o t events-left.fits plan.job (subst (AllFit (length t.paths)) (sym (row_first plan.job shorter o z)) (paths-left.fits, others-fit)))

@@ -11,7 +11,7 @@ use borrow.Author.Tests.{le-leb, lt-leb}
 use Rattle.lists.specs.Lists.{all}
 use Rattle.lists.proofs.Tests.{lt_or_ge}
 use Rattle.order.specs.Order.{Order}
-use Rattle.order.specs.Answer.{Answer, accepted, refused}
+use Rattle.order.specs.Answer.{Answer, refused}
 use Rattle.events.specs.Events.{events}
 use Rattle.paths.specs.Paths.{paths, path_room}
 use Rattle.lengths.specs.Model.Noted.{AllFit, OneTooMany}

@@ -1,7 +1,7 @@
 -- What a job answers and leaves, for accepted orders and whatever is lent (`ran`): 13 is asked of all, 14 of those that list paths. The counts are those of
 -- `undetected` and the choice that of `choice`: from division and the weight of words alone.
 -- Assumes nothing.
-use Rattle.std.specs.Prelude.{ℕ, ◌-◌, cond, List, [], ◌∷◌, leb, length}
+use Rattle.std.specs.Prelude.{ℕ, cond, List, [], ◌∷◌, leb, length}
 use Rattle.lists.specs.Lists.{all, padded, cleared}
 use Rattle.order.specs.Order.{Order}
 use Rattle.order.specs.Answer.{Answer, accepted, refused}

@@ -1,2 +1,3 @@
 pub mod Jobs
+pub mod Lent
 pub mod Model

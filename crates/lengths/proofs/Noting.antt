@@ -1,23 +1,23 @@
 -- The loop over the shorter lengths: what holds when some of them are listed, the shortest first.
 -- Assumes nothing.
-use Prim.Native.Nat.{ℕ, suc, ◌+◌, ◌-◌, ◌≤◌, ◌<◌}
+use Prim.Native.Nat.{ℕ, zero, suc, ◌+◌, ◌≤◌, ◌<◌}
 use native.Mathlib.Omega.{arith}
-use mathlib.Core.Path.{◌≡◌, refl, sym, ap, ◌∙◌, subst}
-use mathlib.Core.Logic.{◌⊎◌, inl, inr}
-use mathlib.Core.List.{List, [], ◌∷◌, map}
-use lib.ListN.{length, get_or, replicate}
-use native.Mathlib.Decide.{ℕ_discrete}
-use Rattle.lists.specs.Lists.{up_from, cleared}
-use Rattle.lists.proofs.Lengths.{length-map-up_from}
+use mathlib.Core.Path.{◌≡◌, sym, ap, ◌∙◌, subst}
+use mathlib.Core.Logic.{inl, inr}
+use mathlib.Core.List.{List, [], ◌∷◌}
+use lib.ListN.{length, get_or, drop, replicate, length-drop}
+use Rattle.std.proofs.Common.{Ok, Err}
+use Rattle.std.proofs.lemmas.List.{drop_more, drop_all}
+use Rattle.lists.specs.Lists.{cleared}
 use Rattle.order.specs.Order.{Order, with_length}
+use Rattle.order.specs.declared.refusal.Refusal.{Refusal}
 use Rattle.events.specs.declared.Event.{Event}
 use Rattle.paths.specs.Paths.{paths, path_room}
-use Rattle.filling.specs.Model.Filling.{ToFill, AllPaths}
-use Rattle.narrowing.specs.Model.Firsts.{NoFirsts, Added, Ranked}
+use Rattle.filling.specs.Model.Filling.{ToFill}
+use Rattle.narrowing.specs.declared.Firsts.{Firsts}
+use Rattle.narrowing.specs.Model.Firsts.{NoFirsts, Ranked}
 use Rattle.narrowing.proofs.Ranked.{ranked_none, ranked_any, ranked_more}
-use Rattle.lengths.specs.declared.Shorter.{Shorter}
-use Rattle.lengths.specs.declared.Noted.{Noted}
-use Rattle.lengths.specs.Shorter.{for_each, length_at, shorter_in}
+use Rattle.lengths.specs.Shorter.{for_each}
 use Rattle.lengths.specs.Model.Noted.{AllFit, OneTooMany, ToListNext, ListedNext, ToListShorter, ListedShorter}
 use Rattle.lengths.proofs.Listed.{divided_left}
 
@@ -25,119 +25,100 @@ cleared_as : (l m : List ℕ) → length l ≡ length m → cleared 0 l ≡ clea
 unfolding cleared
 cleared_as l m e = ap (λ (n : ℕ). replicate n 0) e
 
-module _ (o : Order) (s : Shorter) (es : List Event) (n : ℕ) (table plain work : List ℕ) (asked : ToListShorter o s es n plain work) where
+-- the paths of one of the lengths do not fit
+one_too_many : (o : Order) (np : ℕ) (Ns : List ℕ) (k : ℕ) → k < length Ns → path_room np < length (paths (with_length (get_or Ns k 0) o)) → OneTooMany np (for_each Ns o)
+unfolding OneTooMany for_each
+one_too_many o np [] k h past = absurd (omega (arith, h))
+one_too_many o np (N ∷ Ns) zero h past = inl past
+one_too_many o np (N ∷ Ns) (suc k) h past = inr (one_too_many o np Ns k (omega (arith, h)) past)
+
+module _ (o : Order) (Ns table work : List ℕ) where
+  -- all but the first `left` are listed
+  pub record Stands (left : ℕ) (f : Firsts) (us : List ℕ) : Type 0 where
+    pub within : left ≤ length Ns
+    pub fit : AllFit (length table) (for_each (drop left Ns) o)
+    pub ranked : Ranked o (drop left Ns) f
+    pub zeros : us ≡ cleared 0 work
+
+  pub begun : {left : ℕ} → left ≡ length Ns → {f : Firsts} → NoFirsts f → work ≡ cleared 0 work → Stands left f work
+  unfolding for_each AllFit
+  begun {left} e {f} empty zeros =
+      let none : [] ≡ drop left Ns = sym (drop_all left Ns (omega arith)) in
+      record {
+        within = omega arith;
+        fit = subst (λ (l : List ℕ). AllFit (length table) (for_each l o)) none tt;
+        ranked = subst (λ (l : List ℕ). Ranked o l f) none (ranked_none o empty);
+        zeros = zeros;
+      }
+
+  pub ended : {left : ℕ} → left ≡ 0 → {f : Firsts} {us : List ℕ} → Stands left f us → ListedShorter o Ns (Ok f) table work us
+  ended e {f} stands = record {
+    past = tt;
+    inside = (subst (λ (i : ℕ). AllFit (length table) (for_each (drop i Ns) o)) e stands.fit, subst (λ (i : ℕ). Ranked o (drop i Ns) f) e stands.ranked);
+    zeros = stands.zeros;
+  }
+
+-- the next one, of length Ns[k]
+module _ {o : Order} {Ns : List ℕ} {es : List Event} {table plain work : List ℕ} (asked : ToListShorter o Ns es plain work)
+    {left : ℕ} {f : Firsts} {us : List ℕ} (stands : Stands o Ns table work left f us) (k : ℕ) (more : left ≡ k + 1) where
   abbrev np : ℕ
   np = length table
 
-  -- the last k of the lengths
-  abbrev last : ℕ → List ℕ
-  last k = map (length_at s) (up_from (s.count - k) k)
+  abbrev N : ℕ
+  N = get_or Ns k 0
 
-  abbrev next : ℕ → ℕ
-  next k = length_at s (s.count - (k + 1))
+  abbrev o' : Order
+  o' = with_length N o
 
-  last_more : (k : ℕ) → k < s.count → next k ∷ last k ≡ last (k + 1)
-  unfolding up_from
-  last_more k h =
-      let a : suc (s.count - (k + 1)) ≡ s.count - k = omega arith in
-      let b : suc k ≡ k + 1 = omega arith in
-      ap (λ (i : ℕ). next k ∷ map (length_at s) (up_from i k)) (sym a) ∙ ap (λ (j : ℕ). map (length_at s) (up_from (s.count - (k + 1)) j)) b
+  is-one : k < length Ns
+  is-one = let h = stands.within in omega arith
 
-  last_all : (k : ℕ) → k ≡ s.count → last k ≡ shorter_in s
-  unfolding shorter_in
-  last_all k e =
-      let a : s.count - k ≡ 0 = omega arith in
-      ap (λ (i : ℕ). map (length_at s) (up_from i k)) a ∙ ap (λ (j : ℕ). map (length_at s) (up_from 0 j)) e
+  may : ToFill o' es plain work
+  may = asked.each k is-one
 
-  -- the last k are listed
-  pub record Stands (k : ℕ) (x : Noted) (ls ms us : List ℕ) : Type 0 where
-    pub within : k ≤ s.count
-    pub past : (x.refusal ≡ 0 → ⊥) → OneTooMany np (for_each (last k) o)
-    pub inside : x.refusal ≡ 0 → AllFit np (for_each (last k) o) × Ranked o (last k) x.firsts
-    pub zeros : us ≡ cleared 0 work
-    pub same_ls : length ls ≡ length table
-    pub same_ms : length ms ≡ length plain
-    pub same_us : length us ≡ length work
+  pub to_next : (q : Order) → q ≡ o' → (ms : List ℕ) → length ms ≡ length plain → length us ≡ length work → ToListNext q f es ms us
+  unfolding with_length
+  to_next q e ms same_ms same_us =
+      let fill = may in
+      subst (λ (y : Order). ToListNext y f es ms us) (sym e) (record {
+        fill = record {
+          order = fill.order;
+          from = fill.from;
+          all = fill.all;
+          counts = rw same_ms fill.counts;
+          wide = rw same_us fill.wide;
+          zeros = stands.zeros ∙ cleared_as work us (sym same_us);
+        };
+        degree = asked.degree (let h = is-one in omega arith);
+        ranked = (drop left Ns, ranked_any o N stands.ranked, (let h = asked.few in omega (arith, length-drop left Ns)));
+      })
 
-  pub begun : (x : Noted) → (x.refusal ≡ 0) × NoFirsts x.firsts → Stands 0 x table plain work
-  unfolding up_from for_each AllFit
-  begun x e = record {
-    within = omega arith;
-    past = λ some. absurd (some e.0);
-    inside = λ _. (tt, ranked_none o e.1);
-    zeros = asked.zeros;
-    same_ls = refl;
-    same_ms = refl;
-    same_us = refl;
-  }
+  more_listed : N ∷ drop left Ns ≡ drop k Ns
+  more_listed = ap (λ (i : ℕ). N ∷ drop i Ns) more ∙ sym (drop_more Ns k 0 is-one)
 
-  module _ {k : ℕ} {x : Noted} {ls ms us : List ℕ} (stands : Stands k x ls ms us) (more : k < s.count) where
-    abbrev o' : Order
-    o' = with_length (next k) o
+  room_as : (ls : List ℕ) → length ls ≡ np → path_room (length ls) ≡ path_room np
+  room_as ls same_ls = ap path_room same_ls
 
-    may : ToFill o' es n plain work
-    may = asked.each (s.count - (k + 1)) (omega arith)
-
-    pub to_fill : ToFill o' es n ms us
-    to_fill =
-        let f = may in
+  module _ (q : Order) (e : q ≡ o') {ls ls' ms ms' us' : List ℕ} (same_ls : length ls ≡ np) (same_us : length us ≡ length work) where
+    pub after : (rest : ℕ) → rest ≡ k → (g : Firsts) → ListedNext q f (Ok g) ls ls' ms ms' us us' → Stands o Ns table work rest g us'
+    unfolding AllFit for_each with_length
+    after rest is g listed₀ =
+        let listed = subst (λ (y : Order). ListedNext y f (Ok g) ls ls' ms ms' us us') e listed₀ in
+        let (_, there, added) = listed.inside in
+        let all : N ∷ drop left Ns ≡ drop rest Ns = more_listed ∙ ap (λ (i : ℕ). drop i Ns) (sym is) in
         record {
-          order = f.order;
-          from = f.from;
-          all = f.all;
-          counts = rw stands.same_ms f.counts;
-          wide = rw stands.same_us f.wide;
-          zeros = stands.zeros ∙ cleared_as work us (sym stands.same_us);
+          within = (let h = is-one in omega arith);
+          fit = subst (λ (l : List ℕ). AllFit np (for_each l o)) all (subst (λ (i : ℕ). length (paths o') ≤ i) (room_as ls same_ls) there.fits, stands.fit);
+          ranked = subst (λ (l : List ℕ). Ranked o l g) all (ranked_more o stands.ranked (divided_left o' may.order.code there) added);
+          zeros = listed.zeros ∙ cleared_as us work same_us;
         }
 
-    pub to_next : (q : Order) → q ≡ o' → ToListNext q x es n ms us
-    unfolding with_length
-    to_next q e = subst (λ (y : Order). ToListNext y x es n ms us) (sym e) (record {
-      fill = to_fill;
-      degree = asked.degree (omega arith);
-      ranked = λ z. (last k, ranked_any o (next k) (stands.inside z).1, omega (arith, asked.few, length-map-up_from (length_at s) (s.count - k) k));
-    })
-
-    room_as : path_room (length ls) ≡ path_room np
-    room_as = ap path_room stands.same_ls
-
-    module _ {r : Noted} {ls' ms' us' : List ℕ} (listed : ListedNext o' x r ls ls' ms ms' us us') where
-      one_more : (r.refusal ≡ 0 → ⊥) → OneTooMany np (for_each (next k ∷ last k) o)
-      unfolding OneTooMany for_each
-      one_more nz = elim (ℕ_discrete x.refusal 0) [
-        | yes z ↦ inl (subst (λ (i : ℕ). i < length (paths o')) room_as (listed.past z nz))
-        | no y ↦ inr (stands.past y)
-      ]
-
-      all_more : r.refusal ≡ 0 → AllFit np (for_each (next k ∷ last k) o) × Ranked o (next k ∷ last k) r.firsts
-      unfolding AllFit for_each with_length
-      all_more z =
-          let h = listed.inside z in
-          let fine = stands.inside (elim (ℕ_discrete x.refusal 0) [ yes q ↦ q | no y ↦ absurd (listed.stays y z) ]) in (
-            (subst (λ (i : ℕ). length (paths o') ≤ i) room_as h.1.fits, fine.0),
-            ranked_more o fine.1 (divided_left o' may.order.code h.1) h.2,
-          )
-
-    pub after : (q : Order) → q ≡ o' → (r : Noted) (ls' ms' us' : List ℕ) → ListedNext q x r ls ls' ms ms' us us' → length ls' ≡ length table → length ms' ≡ length plain → length us' ≡ length work
-        → Stands (k + 1) r ls' ms' us'
-    after q e r ls' ms' us' listed₀ kl km ku =
-        let listed : ListedNext o' x r ls ls' ms ms' us us' = subst (λ (y : Order). ListedNext y x r ls ls' ms ms' us us') e listed₀ in
+    -- its paths do not fit
+    pub stopped : (r : Refusal) → ListedNext q f (Err r) ls ls' ms ms' us us' → ListedShorter o Ns (Err r) table work us'
+    stopped r listed₀ =
+        let listed = subst (λ (y : Order). ListedNext y f (Err r) ls ls' ms ms' us us') e listed₀ in
         record {
-          within = omega arith;
-          past = λ nz. subst (λ (Ns : List ℕ). OneTooMany np (for_each Ns o)) (last_more k more) (one_more listed nz);
-          inside = λ z. let h = all_more listed z in (subst (λ (Ns : List ℕ). AllFit np (for_each Ns o)) (last_more k more) h.0, subst (λ (Ns : List ℕ). Ranked o Ns r.firsts) (last_more k more) h.1);
-          zeros = listed.zeros ∙ cleared_as us work stands.same_us;
-          same_ls = kl;
-          same_ms = km;
-          same_us = ku;
+          past = (listed.past.0, one_too_many o np Ns k is-one (subst (λ (i : ℕ). i < length (paths o')) (room_as ls same_ls) listed.past.1));
+          inside = tt;
+          zeros = listed.zeros ∙ cleared_as us work same_us;
         }
-
-  pub ended : {k : ℕ} {x : Noted} {ls ms us : List ℕ} → Stands k x ls ms us → s.count ≤ k → ListedShorter o s x table work us
-  ended {k} {x} {ls} {ms} {us} stands h =
-      let w = stands.within in
-      let all : last k ≡ shorter_in s = last_all k (omega arith) in
-      record {
-        past = λ nz. subst (λ (Ns : List ℕ). OneTooMany np (for_each Ns o)) all (stands.past nz);
-        inside = λ z. let f = stands.inside z in (subst (λ (Ns : List ℕ). AllFit np (for_each Ns o)) all f.0, subst (λ (Ns : List ℕ). Ranked o Ns x.firsts) all f.1);
-        zeros = stands.zeros;
-      }

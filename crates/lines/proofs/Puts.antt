@@ -5,8 +5,10 @@ use native.Mathlib.Nat.{add-zero, le_refl}
 use native.Mathlib.Omega.{arith}
 use mathlib.Core.Path.{◌≡◌, refl, sym, ap, ap₂, ◌∙◌, subst}
 use mathlib.Core.List.{List, [], ◌∷◌, ◌++◌}
-use lib.ListN.{length, set, length-append}
-use lib.Seq.{sets, length-sets}
+use lib.ListN.{length, take, drop, set, length-append}
+use lib.Seq.{sets, sets-eq, length-sets, take_all}
+use borrow.Rule.Slice.PartMut.{put_mid}
+use Rattle.std.proofs.lemmas.Slice.{put_mid-paste}
 use Rattle.lists.proofs.Stores.{sets_append}
 use Rattle.lines.specs.Lines.{digit, numeral}
 use Rattle.lines.specs.Model.Steps.{Put}
@@ -17,6 +19,17 @@ put_none l at = record { stored = refl; next = sym (add-zero at); short = le_ref
 
 pub put_byte : (l : List ℕ) (at b : ℕ) {x : ℕ} → x ≡ b → Put 1 l at (b ∷ []) (set l at x) (at + 1)
 put_byte l at b e = record { stored = ap (set l at) e; next = refl; short = le_refl 1 }
+
+-- bytes copied into a part of the buffer, of k
+pub put_part : (l bytes : List ℕ) (at k : ℕ) {part : List ℕ} → at + length bytes ≤ length l → length bytes ≡ k → part ≡ bytes
+    → Put (length bytes) l at bytes (put_mid at k l part) (at + length bytes)
+put_part l bytes at k {part} h n e = record {
+  stored =
+      put_mid-paste at k l part bytes (length bytes) e n refl
+      ∙ ap (λ (x : List ℕ). take at l ++ x ++ drop (at + length bytes) l) (take_all (length bytes) bytes (le_refl _)) ∙ sym (sets-eq bytes l at h);
+  next = refl;
+  short = le_refl _;
+}
 
 pub put_as : {m : ℕ} {l l' a b : List ℕ} {at end : ℕ} → a ≡ b → Put m l at a l' end → Put m l at b l' end
 put_as {m} {l} {l'} {at = at} {end} e p = subst (λ (t : List ℕ). Put m l at t l' end) e p

@@ -17,12 +17,9 @@ fn put_bytes(buffer: &mut [u8], at: usize, bytes: &[u8]) -> usize
     requires { at + length bytes.now ≤ length buffer.old }
     ensures { Put (length bytes.now) buffer.old at bytes.now buffer.new result }
 {
-    let mut i = 0;
-    while i < bytes.len() {
-        buffer[at + i] = bytes[i];
-        i += 1;
-    }
-    at + i
+    let end = at + bytes.len();
+    buffer[at..end].copy_from_slice(bytes);
+    end
 }
 
 // A word and decimal numbers.
@@ -72,10 +69,8 @@ pub fn put_counts(
     ensures { Put (51 * entries) buffer.old at (flat_map (count_line plain.now undetected.now) (up_from 1 entries)) buffer.new result }
 {
     let mut end = at;
-    let mut k = 0;
-    while k < entries {
+    for k in 0..entries {
         end = put_count(buffer, end, k, plain, undetected);
-        k += 1;
     }
     end
 }

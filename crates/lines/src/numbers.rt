@@ -34,11 +34,9 @@ pub fn put_numbers(buffer: &mut [u8], at: usize, base: u64, numbers: &[u64]) -> 
     ensures { Put (23 * length numbers.now) buffer.old at (spaced base numbers.now) buffer.new result }
 {
     let mut end = at;
-    let mut i = 0;
-    while i < numbers.len() {
+    for number in numbers {
         buffer[end] = b' ';
-        end = put_digits(buffer, end + 1, base, numbers[i]);
-        i += 1;
+        end = put_digits(buffer, end + 1, base, *number);
     }
     end
 }

@@ -46,10 +46,12 @@ module _ (o : Order) where
       → Readable bits (o.d - 1) table plain → CheckDegree o.m → 1 ≤ o.d → o.d ≤ 64 → ToAdd bits (o.d - 1) o.m table plain f
   ranked_to_add {Ns} ranked seven readable degree some-d few = record {
     readable = readable;
-    degree = degree;
-    few = omega arith;
-    seven = subst (λ (x : ℕ). x ≤ 128 ^ 7) (sym ranked.worth) (pow-le-pow_right (omega arith) seven);
-    below = λ k h. subst₂ ◌<◌ (sym (ranked.each k h)) (sym ranked.worth) (rank_below o some-d few Ns _);
+    firsts = record {
+      degree = degree;
+      few = omega arith;
+      seven = subst (λ (x : ℕ). x ≤ 128 ^ 7) (sym ranked.worth) (pow-le-pow_right (omega arith) seven);
+      below = λ k h. subst₂ ◌<◌ (sym (ranked.each k h)) (sym ranked.worth) (rank_below o some-d few Ns _);
+    };
   }
 
   -- the counts over the table are the undetected counts at this length

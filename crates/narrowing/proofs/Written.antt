@@ -5,16 +5,13 @@ use native.Mathlib.Decide.{dec_lt}
 use native.Mathlib.Omega.{arith}
 use mathlib.Core.Path.{◌≡◌, sym, ap, ◌∙◌}
 use mathlib.Core.List.{List}
-use lib.ListN.{length, get_or, set, replicate, length-set, length-replicate}
+use lib.ListN.{length, get_or, set, length-set}
 use lib.Seq.{get_or-set_same, get_or-set_other}
 
 module _ {A : Type 0} (z : A) (value : ℕ → A) (size : ℕ) where
   pub record Written (l : List A) (k : ℕ) : Type 0 where
     pub long : length l ≡ size
     pub done : (j : ℕ) → j < k → get_or l j z ≡ value j
-
-  pub written_none : Written (replicate size z) 0
-  written_none = record { long = length-replicate size z; done = λ j h. absurd (omega arith) }
 
   pub written_next : {l : List A} {k : ℕ} (x : A) → k < size → x ≡ value k → Written l k → Written (set l k x) (k + 1)
   written_next {l} {k} x inside e w = record {

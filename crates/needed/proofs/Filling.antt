@@ -20,10 +20,8 @@ use Rattle.needed.proofs.Places.{In, region, rows_region, steps_region, half_reg
 
 -- ---- a loop that fills the work area
 
--- k of n are stored, what is left to store gives the whole, and the sums are still small
-pub record Underway (k n : ℕ) (before now left whole : List ℕ) : Type 0 where
-  pub within : k ≤ n
-  pub same_size : length now ≡ length before
+-- what is left to store gives the whole, and the sums are still small
+pub record Underway (now left whole : List ℕ) : Type 0 where
   pub tables : Tables now
   pub gives : left ≡ whole
 
@@ -101,14 +99,6 @@ pack_turn work i t q k word r pos h e is =
   where
     joined : (x y u w : ℕ) → x ≡ w → y ≡ u → x * 256 + y ≡ u + 256 * w
     joined x y u w p p' = omega arith
-
-pub pack_end : (work : List ℕ) (i t q k word : ℕ) → k ≤ 0 → word ≡ packed work i t (8 - k) (q * 8 + k) → word ≡ packed work i t 8 (q * 8)
-pack_end work i t q k word h e =
-    let none : k ≡ 0 = omega arith in
-    e ∙ ap (λ (x : ℕ). packed work i t (8 - x) (q * 8 + x)) none ∙ ap (packed work i t 8) (zero_more (q * 8))
-  where
-    zero_more : (x : ℕ) → x + 0 ≡ x
-    zero_more x = omega arith
 
 -- ---- a loop that does n turns, one at a time: what is left to do, done from here, gives the whole
 
@@ -218,23 +208,11 @@ pub least_found : (work : List ℕ) (i t s a b m r : ℕ) → (t ≡ 0 → ⊥) 
     → b ≡ through work (t - 1) (s / 2 + half_at work) (s % 2) → m ≡ min a b → r ≡ min 64 m → r ≡ least_to work i t s
 least_found work i t s a b m r n h ea eb em er = er ∙ ap (min 64) (em ∙ ap₂ min ea eb) ∙ least_above work i t s n h
 
-pub row_begin : (i t words : ℕ) (work : List ℕ) → row_from i t (words - 0) 0 work ≡ row_from i t words 0 work
-row_begin i t words work = ap (λ (n : ℕ). row_from i t n 0 work) (all_left words)
-  where
-    all_left : (x : ℕ) → x - 0 ≡ x
-    all_left x = omega arith
-
 pub row_again : (i t words q : ℕ) (work work₀ : List ℕ) (word : ℕ) → q < words → word ≡ packed work i t 8 (q * 8)
     → row_from i t (words - q) q work ≡ row_from i t words 0 work₀
     → row_from i t (words - (q + 1)) (q + 1) (set work (t * row_words + q) word) ≡ row_from i t words 0 work₀
 row_again i t words q work work₀ word h e inv =
     ap (λ (x : ℕ). row_from i t (words - (q + 1)) (q + 1) (set work (t * row_words + q) x)) e ∙ row_turn i t words q work h ∙ inv
-
-pub rows_begin : (i words rows : ℕ) (work : List ℕ) → rows_from i words (rows - 0) 0 work ≡ rows_from i words rows 0 work
-rows_begin i words rows work = ap (λ (n : ℕ). rows_from i words n 0 work) (all_left rows)
-  where
-    all_left : (x : ℕ) → x - 0 ≡ x
-    all_left x = omega arith
 
 pub rows_again : (i words rows t : ℕ) (work work₀ next : List ℕ) → t < rows → next ≡ row_from i t words 0 work
     → rows_from i words (rows - t) t work ≡ rows_from i words rows 0 work₀ → rows_from i words (rows - (t + 1)) (t + 1) next ≡ rows_from i words rows 0 work₀

@@ -1,5 +1,6 @@
-// The tables of the work area, which `specs/Model/Tables.antt` describes: what a step weighs, and the least weights that cut the walk backwards.
-ghost use Rattle.std.specs.Prelude.{◌≡◌, ◌+◌, ◌-◌, ◌*◌, ◌/◌, ◌%◌, ◌<◌, ◌≤◌, min, length};
+// The tables of the work area, which `specs/Model/Tables.antt` describes: what a step weighs, and the least weights that cut the walk backwards. The area is
+// a slice of numbers, since hosts in C lend it so: what is known of it stands in the contracts.
+ghost use Rattle.std.specs.Prelude.{◌≡◌, ◌+◌, ◌-◌, ◌*◌, ◌/◌, ◌%◌, ◌<◌, ◌≤◌, length};
 ghost use Rattle.needed.specs.Model.Tables.{step_count, tables_end, need, step_at, through, least_to, packed, row_from, rows_from, weights_from, prepared, turned, Entry, Step, Rows, Unprepared};
 
 use code::encoder::step_weight;
@@ -38,15 +39,6 @@ pub fn step_at(work: &[u64], p: u64, b: u64) -> u64
     work[at]
 }
 
-fn least(a: u64, b: u64) -> u64
-    ensures { result ≡ min a b }
-{
-    if a < b {
-        return a;
-    }
-    b
-}
-
 // By way of state p and input b.
 fn through(work: &[u64], t: u64, p: u64, b: u64) -> u64
     requires { Entry work.now t p × (b < 2) }
@@ -71,7 +63,7 @@ fn least_to(work: &[u64], i: u64, t: u64, s: u64) -> u64
     }
     let a = through(work, t - 1, s / 2, s % 2);
     let b = through(work, t - 1, s / 2 + work[HALF_AT], s % 2);
-    least(NO_WALK, least(a, b))
+    NO_WALK.min(a.min(b))
 }
 
 // Eight of them as one number, word q of row t.
@@ -80,9 +72,7 @@ fn pack(work: &[u64], i: u64, t: u64, q: u64) -> u64
     ensures { result ≡ packed work.now i t 8 (q * 8) }
 {
     let mut word = 0;
-    let mut k = 8;
-    while 0 < k {
-        k -= 1;
+    for k in (0..8).rev() {
         word = word * 256 + least_to(work, i, t, q * 8 + k);
     }
     word
@@ -92,12 +82,10 @@ fn fill_row(work: &mut [u64], i: u64, t: u64, words: u64)
     requires { Rows work.old words (t + 1) }
     ensures { work.new ≡ row_from i t words 0 work.old }
 {
-    let mut q = 0;
-    while q < words {
+    for q in 0..words {
         let word = pack(work, i, t, q);
         let at = (t * ROW_WORDS + q) as usize;
         work[at] = word;
-        q += 1;
     }
 }
 
@@ -105,10 +93,8 @@ fn fill_rows(work: &mut [u64], i: u64, words: u64, rows: u64)
     requires { Rows work.old words rows }
     ensures { work.new ≡ rows_from i words rows 0 work.old }
 {
-    let mut t = 0;
-    while t < rows {
+    for t in 0..rows {
         fill_row(work, i, t, words);
-        t += 1;
     }
 }
 
@@ -116,11 +102,9 @@ fn fill_weights(generators: &[u64], work: &mut [u64])
     requires { (length generators.now ≤ 4) × (tables_end ≤ length work.old) }
     ensures { work.new ≡ weights_from generators.now step_count 0 work.old }
 {
-    let mut x = 0;
-    while x < STEP_COUNT {
+    for x in 0..STEP_COUNT {
         let at = (STEPS_AT + x) as usize;
         work[at] = step_weight(generators, x);
-        x += 1;
     }
 }
 

@@ -1,21 +1,20 @@
 -- The answers to single questions, from the comparisons that the code makes.
 -- Assumes nothing.
-use mathlib.Core.Path.{◌≡◌, sym, ap, ◌∙◌}
-use mathlib.Core.Bool.{true, false}
+use mathlib.Core.Path.{◌≡◌, refl, sym, ap, ap₂, ◌∙◌}
+use mathlib.Core.Bool.{Bool, true, false, ◌&&◌, ◌||◌}
+use mathlib.Core.List.{List, [], ◌∷◌}
 use Prim.Native.Nat.{ℕ, ◌+◌, ◌*◌, ◌/◌, ◌%◌, ◌^◌, ◌≤◌, ◌<◌}
 use native.Mathlib.Nat.{div-eq_of_lt, lt_of_lt_of_le}
 use native.Mathlib.Omega.{arith}
-use borrow.Author.Tests.{leb-true, ltb-true, lt-ltb, le-ltb, lt-leb, le-leb, eq-eqb, ne_eqb}
+use borrow.Author.Tests.{leb-true, ltb-true, lt-ltb, le-ltb, le-leb, eq-eqb, ne_eqb}
 use lib.Dec.{leb, ltb, eqb}
 use lib.Pow.{pow_mono}
+use Rattle.std.specs.List.{list_all, list_any}
+use Rattle.lists.specs.Lists.{all, any}
 use Rattle.lists.proofs.Tests.{and_yes, and_no, both}
 use Rattle.poly.specs.Poly.{bit}
 use Rattle.poly.proofs.Shifts.{shl_one}
 use Rattle.order.specs.Questions.{from_to, in_range, has_bit}
-
-pub too_small : (low high x : ℕ) → x < low → false ≡ from_to low high x
-unfolding from_to
-too_small low high x h = and_no (leb low x) (leb x high) (lt-leb low x h)
 
 pub not_too_small : (low high x : ℕ) → low ≤ x → leb x high ≡ from_to low high x
 unfolding from_to
@@ -47,6 +46,28 @@ has_bit_lem j g x e f = eq-eqb (bit j g) 1 (sym e ∙ f)
 pub has_no_bit : (j g x : ℕ) → x ≡ bit j g → (x ≡ 1 → ⊥) → has_bit j g ≡ false
 unfolding has_bit
 has_no_bit j g x e n = ne_eqb (bit j g) 1 (λ f. n (e ∙ f))
+
+-- the code's test, by a shift
+pub in_range_same : (v g : ℕ) → v < 63 → (ltb 0 g && ltb g (1 * 2 ^ (v + 1) % 2 ^ 64)) ≡ in_range v g
+unfolding in_range
+in_range_same v g h = ap (λ (n : ℕ). ltb 0 g && ltb g n) (shl_one (v + 1) (omega arith))
+
+pub has_bit_same : (j g : ℕ) → eqb (bit j g) 1 ≡ has_bit j g
+unfolding has_bit
+has_bit_same j g = refl
+
+-- ---- all and any are the library's
+
+module _ {A : Type 0} (f test : A → Bool) (same : (x : A) → test x ≡ f x) where
+  pub all_same : (xs : List A) → list_all test xs ≡ all f xs
+  unfolding all
+  all_same [] = refl
+  all_same (x ∷ xs) = ap₂ (λ (a b : Bool). a && b) (same x) (all_same xs)
+
+  pub any_same : (xs : List A) → list_any test xs ≡ any f xs
+  unfolding any
+  any_same [] = refl
+  any_same (x ∷ xs) = ap₂ (λ (a b : Bool). a || b) (same x) (any_same xs)
 
 -- ---- the comparisons, from the answers
 

@@ -1,5 +1,6 @@
 pub mod Answers
 pub mod FirstNo
+pub mod Refusals
 pub mod Asked
 pub mod SharedFactor
 pub mod Records

@@ -17,10 +17,9 @@ use Rattle.lists.proofs.Tests.{and_yes, and_no, both}
 use Rattle.order.specs.Questions.{Question, first_no, from_to, highest_version, shape_questions}
 use Rattle.order.specs.Answer.{accepted, refused, unless}
 use Rattle.order.specs.Order.{Order, everything, be16, length_right, version_right, count_right, record_questions, order_questions, read_generators, read_fields, read}
-use Rattle.order.specs.Answers.{generator_in, order_in, record_of, reading_of}
+use Rattle.order.specs.Answers.{generator_in, order_in, record_of, recorded}
 use Rattle.order.specs.Model.Fields.{fields_of}
 use Rattle.order.specs.declared.record.OrderRecord.{OrderRecord}
-use Rattle.order.specs.declared.record.Reading.{Reading}
 use Rattle.order.proofs.Answers.{not_too_small}
 use Rattle.order.proofs.FirstNo.{Numbered, first_no_no, asked, refused_first, refused_later}
 use Rattle.order.proofs.Asked.{length-order_in, accepted_whole}
@@ -142,14 +141,14 @@ module _ (bytes : List ℕ) where
     | inr few ↦ ap (λ (o : Order). first_no (order_questions everything o)) (fields_order bytes few)
   ]
 
-  reading_refused : (r : ℕ) → r ≡ first_no (record_questions bytes ++ order_questions everything (read_fields bytes)) → (r ≡ 0 → ⊥) → reading_of (refused r) ≡ reading_of (read bytes)
-  unfolding read unless
+  reading_refused : (r : ℕ) → r ≡ first_no (record_questions bytes ++ order_questions everything (read_fields bytes)) → (r ≡ 0 → ⊥) → refused r ≡ recorded (read bytes)
+  unfolding read unless recorded
   reading_refused zero e n = absurd (n refl)
-  reading_refused (suc r) e n = ap (λ (k : ℕ). reading_of (unless k (accepted (read_fields bytes)))) e
+  reading_refused (suc r) e n = ap (λ (k : ℕ). recorded (unless k (accepted (read_fields bytes)))) e
 
   module _ (r : ℕ) (er : r ≡ first_no (record_questions bytes)) where
-    pub read_refused_outside : (a : Reading) → a ≡ reading_of (refused r) → (r ≡ 0 → ⊥) → a ≡ reading_of (read bytes)
-    read_refused_outside a e n = e ∙ reading_refused r (refused_first _ _ r (record_numbered bytes) er n) n
+    pub read_refused_outside : (r ≡ 0 → ⊥) → refused r ≡ recorded (read bytes)
+    read_refused_outside n = reading_refused r (refused_first _ _ r (record_numbered bytes) er n) n
 
     module _ (z : r ≡ 0) (o : OrderRecord) (eo : o ≡ fields_of bytes) (x : ℕ) (ex : x ≡ first_no (order_questions everything (order_in o))) where
       asked_inside : x ≡ first_no (order_questions everything (read_fields bytes))
@@ -158,14 +157,14 @@ module _ (bytes : List ℕ) where
       asked_all : x ≡ first_no (record_questions bytes ++ order_questions everything (read_fields bytes))
       asked_all = refused_later _ _ r x (record_numbered bytes) er z asked_inside
 
-      pub read_refused_inside : (a : Reading) → a ≡ reading_of (refused x) → (x ≡ 0 → ⊥) → a ≡ reading_of (read bytes)
-      read_refused_inside a e n = e ∙ reading_refused x asked_all n
+      pub read_refused_inside : (x ≡ 0 → ⊥) → refused x ≡ recorded (read bytes)
+      read_refused_inside n = reading_refused x asked_all n
 
-      pub read_accepted : x ≡ 0 → record { refusal = 0; order = o } ≡ reading_of (read bytes)
-      unfolding read unless reading_of
+      pub read_accepted : x ≡ 0 → accepted o ≡ recorded (read bytes)
+      unfolding read unless recorded
       read_accepted zx =
           let code = (accepted_whole (read_fields bytes) (sym asked_inside ∙ zx)).order.code in
           let count : length (read_fields bytes).generators ≡ get_or bytes 3 0 = length-read bytes in
-          ap (λ (q : OrderRecord). record { refusal = 0; order = q })
+          ap (λ (q : OrderRecord). accepted q)
           (eo ∙ fields_are_record bytes (rw (← count) code.some_generators) (rw (← count) code.few_generators) (record_size bytes (sym er ∙ z)))
-          ∙ ap (λ (k : ℕ). reading_of (unless k (accepted (read_fields bytes)))) (sym zx ∙ asked_all)
+          ∙ ap (λ (k : ℕ). recorded (unless k (accepted (read_fields bytes)))) (sym zx ∙ asked_all)

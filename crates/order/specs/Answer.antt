@@ -1,5 +1,5 @@
 -- What a call answers: its values, or document 01's number of the question that says no.
--- Every enum of the library has a definition of what its cases say in these words (`weighed_as`, `answered_as`, ..), and the promises use it.
+-- What a result of the library says in these words, `Refusals.antt` has (`answered_by`), and the promises use it.
 -- Assumes nothing.
 use Rattle.std.specs.Prelude.{ℕ, zero, suc}
 

@@ -1,11 +1,10 @@
--- An order as the library's struct, and the struct that reading a record answers.
+-- An order as the library's struct.
 -- Assumes nothing.
-use Rattle.std.specs.Prelude.{map, ℕ, length, get_or, replicate}
+use Rattle.std.specs.Prelude.{map, ℕ, length, get_or}
 use Rattle.lists.specs.Lists.{up_from, padded}
 use Rattle.order.specs.Answer.{Answer, accepted, refused}
 use Rattle.order.specs.Order.{Order}
 use Rattle.order.specs.declared.record.OrderRecord.{OrderRecord}
-use Rattle.order.specs.declared.record.Reading.{Reading}
 
 -- generator k of a struct, which has four; further ones are 0
 unfoldable pub generator_in : OrderRecord → ℕ → ℕ
@@ -20,11 +19,7 @@ unfoldable pub record_of : Order → OrderRecord
 record_of o =
     record { version = o.version; n = length o.generators; v = o.v; bits = o.N; m = o.m; d = o.d; generators = padded 4 0 o.generators }
 
--- no order
-unfoldable pub no_order : OrderRecord
-no_order = record { version = 0; n = 0; v = 0; bits = 0; m = 0; d = 0; generators = replicate 4 0 }
-
--- an order that was read; or the refusal's number, and no order
-unfoldable pub reading_of : Answer Order → Reading
-reading_of (accepted o) = record { refusal = 0; order = record_of o }
-reading_of (refused k) = record { refusal = k; order = no_order }
+-- what reading a record answers: the order that was read as its struct
+unfoldable pub recorded : Answer Order → Answer OrderRecord
+recorded (accepted o) = accepted (record_of o)
+recorded (refused k) = refused k

@@ -2,7 +2,7 @@
 -- Question 1 is about the bytes of a record (`Order.antt`, which has the questions about a whole order); 13 and 14 are asked once events
 -- and paths have been counted (`jobs`). A call asks the questions about the values that it takes, in the order in which they stand here.
 -- Assumes nothing.
-use Rattle.std.specs.Prelude.{ℕ, ◌+◌, ◌-◌, ◌/◌, ◌^◌, Bool, cond, not, ◌&&◌, List, [], ◌∷◌, leb, ltb, eqb}
+use Rattle.std.specs.Prelude.{ℕ, ◌+◌, ◌/◌, ◌^◌, Bool, cond, not, ◌&&◌, List, [], ◌∷◌, leb, ltb, eqb}
 use Rattle.lists.specs.Lists.{all, any}
 use Rattle.poly.specs.Poly.{bit}
 use Rattle.gcd.specs.SharedFactor.{share_factor}

@@ -1,9 +1,11 @@
-// Each question as a test, equal to the definition's. The numbers of the questions stand in the calls that ask them.
+// Each question as a test, equal to the definition's; and questions that are asked together, with the refusal of the first that says no.
 ghost use Rattle.std.specs.Prelude.{◌≡◌, ◌&&◌, ◌+◌, ◌-◌, ◌/◌, ◌^◌, ◌<◌, ltb, eqb};
 ghost use Rattle.lists.specs.Lists.{all, any};
 ghost use Rattle.poly.specs.Poly.{bit};
 ghost use Rattle.order.specs.Questions.{first_no, from_to, in_range, has_bit, shape_questions, generator_questions};
+ghost use Rattle.order.specs.Refusals.{asked};
 
+use super::refusal::Refusal;
 use gcd::share_factor;
 
 // The numbers that a work area has at least.
@@ -50,53 +52,35 @@ pub const EVERYTHING: Takes = Takes {
 pub fn from_to(low: u64, high: u64, x: u64) -> bool
     ensures { result ≡ from_to low high x }
 {
-    if x < low {
-        return false;
-    }
-    x <= high
+    low <= x && x <= high
 }
 
 // How many weights have counts, below threshold d: those from 1 on.
 pub fn counted_weights(d: u64) -> u64
     ensures { result ≡ d - 1 }
 {
-    if d < 2 {
-        return 0;
-    }
-    d - 1
+    d.saturating_sub(1)
 }
 
 // Question 6: is the degree from 1 to 12 and below N?
 pub fn degree_fits(bits: u64, m: u64) -> bool
     ensures { result ≡ (from_to 1 12 m && ltb m bits) }
 {
-    if from_to(1, 12, m) {
-        return m < bits;
-    }
-    false
+    from_to(1, 12, m) && m < bits
 }
 
 // Bit j of a number; 0 from bit 64 on.
 pub fn bit_of(a: u64, j: u64) -> u64
     ensures { result ≡ bit j a }
 {
-    if j < 64 {
-        return (a >> j) % 2;
-    }
-    0
+    if j < 64 { (a >> j) % 2 } else { 0 }
 }
 
 // Question 11: has p degree m and constant term 1?
 pub fn is_check_polynomial(m: u64, p: u64) -> bool
     ensures { result ≡ (eqb (p / 2 ^ m) 1 && eqb (bit 0 p) 1) }
 {
-    if 63 < m {
-        return false;
-    }
-    if p >> m == 1 {
-        return bit_of(p, 0) == 1;
-    }
-    false
+    m < 64 && p >> m == 1 && bit_of(p, 0) == 1
 }
 
 // Question 8: is every generator nonzero and below 2^(v + 1)?
@@ -105,76 +89,62 @@ pub fn all_in_range(v: u64, generators: &[u64]) -> bool
     ensures { result ≡ all (in_range v) generators.now }
 {
     let limit = 1 << (v + 1);
-    let mut i = 0;
-    while i < generators.len() {
-        let g = generators[i];
-        if g == 0 {
-            return false;
-        }
-        if limit <= g {
-            return false;
-        }
-        i += 1;
-    }
-    true
+    generators.iter().all(|&g| 0 < g && g < limit)
 }
 
 // Question 9, half of it: has some generator bit j?
 pub fn some_has_bit(j: u64, generators: &[u64]) -> bool
     ensures { result ≡ any (has_bit j) generators.now }
 {
-    let mut i = 0;
-    while i < generators.len() {
-        if bit_of(generators[i], j) == 1 {
-            return true;
-        }
-        i += 1;
-    }
-    false
+    generators.iter().any(|&g| bit_of(g, j) == 1)
 }
 
-// Questions 2, 3, 4 and 5: the number of the first that says no, or 0.
-pub fn ask_shape(versions: u64, longest: u64, version: u64, n: u64, v: u64, bits: u64) -> u64
-    ensures { result ≡ first_no (shape_questions versions longest version n v bits) }
+// Questions 2, 3, 4 and 5.
+pub fn ask_shape(
+    versions: u64,
+    longest: u64,
+    version: u64,
+    n: u64,
+    v: u64,
+    bits: u64,
+) -> Result<(), Refusal>
+    ensures { asked result ≡ first_no (shape_questions versions longest version n v bits) }
 {
     if !from_to(1, versions, version) {
-        return 2;
+        return Err(Refusal::LinkKind);
     }
     if !from_to(2, 4, n) {
-        return 3;
+        return Err(Refusal::GeneratorCount);
     }
     if !from_to(1, 8, v) {
-        return 4;
+        return Err(Refusal::Memory);
     }
     if !from_to(v, longest, bits) {
-        return 5;
+        return Err(Refusal::WordLength);
     }
-    0
+    Ok(())
 }
 
 // Has some generator bit v, and some generator bit 0?
 pub fn ends_reached(v: u64, generators: &[u64]) -> bool
     ensures { result ≡ (any (has_bit v) generators.now && any (has_bit 0) generators.now) }
 {
-    if some_has_bit(v, generators) {
-        return some_has_bit(0, generators);
-    }
-    false
+    some_has_bit(v, generators) && some_has_bit(0, generators)
 }
 
-// Questions 8, 9 and 16: the number of the first that says no, or 0.
-pub fn ask_generators(v: u64, generators: &[u64]) -> u64
+// Questions 8, 9 and 16.
+pub fn ask_generators(v: u64, generators: &[u64]) -> Result<(), Refusal>
     requires { v < 63 }
-    ensures { result ≡ first_no (generator_questions v generators.now) }
+    ensures { asked result ≡ first_no (generator_questions v generators.now) }
 {
     if !all_in_range(v, generators) {
-        return 8;
+        return Err(Refusal::GeneratorRange);
     }
     if !ends_reached(v, generators) {
-        return 9;
+        return Err(Refusal::GeneratorEnds);
     }
     if share_factor(generators) {
-        return 16;
+        return Err(Refusal::SharedFactor);
     }
-    0
+    Ok(())
 }

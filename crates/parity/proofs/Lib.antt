@@ -1,4 +1,4 @@
 pub mod Ones
 pub mod Divided
 pub mod Rows
-pub mod Checks
+pub mod Even

@@ -32,79 +32,75 @@ fn check_row(bits: u64, m: u64, p: u64, i: u64) -> Word
 {
     let mut row = make(0, 0);
     let mut power = 1;
-    let mut j = 0;
-    while j < bits {
+    for j in 0..bits {
         row = with_bit(row, j, (power >> i) % 2);
         power = times_x(power, m, p);
-        j += 1;
     }
     row
 }
 
-// The m rows for words of so many bits, low half first.
-pub fn check_table(bits: u64, m: u64, p: u64) -> [u64; 24]
-    requires { ToCheck bits m p }
-    ensures { result ≡ check_table bits m p }
-{
-    let mut rows = [0; 24];
-    let mut i = 0;
-    while i < m {
-        let row = check_row(bits, m, p, i);
-        let at = 2 * i as usize;
-        rows[at] = row.low;
-        rows[at + 1] = row.high;
-        i += 1;
-    }
-    rows
+// The parity checks of a polynomial of degree `count`: a row each, low half first, and zeros after them.
+#[derive(Clone, Copy)]
+pub struct Checks {
+    pub rows: [u64; 24],
+    pub count: u64,
+    pub ghost few: { count ≤ 12 },
 }
 
-// The ones, modulo 2, that the word with these halves has at the places of row i.
-fn oddness_of(rows: &[u64; 24], i: usize, low: u64, high: u64) -> u32
-    requires { i < 12 }
-    ensures { (result ≡ oddness rows.now low high i) × (result < 2) }
-{
-    let at = 2 * i;
-    let common = (low & rows[at]) ^ (high & rows[at + 1]);
-    u64::count_ones(common) % 2
-}
-
-// The rows from row `first` on, one by one.
-fn rest_even(rows: &[u64; 24], m: usize, first: usize, low: u64, high: u64) -> bool
-    requires { (m ≤ 12) × (first ≤ m) }
-    ensures { result ≡ even_from rows.now m first low high }
-{
-    let mut i = first;
-    while i < m {
-        if oddness_of(rows, i, low, high) != 0 {
-            return false;
+impl Checks {
+    // For words of so many bits.
+    pub fn new(bits: u64, m: u64, p: u64) -> Checks
+        requires { ToCheck bits m p }
+        ensures { (result.rows ≡ check_table bits m p) × (result.count ≡ m) }
+    {
+        let mut rows = [0; 24];
+        for i in 0..m {
+            let row = check_row(bits, m, p, i);
+            let at = 2 * i as usize;
+            rows[at] = row.low;
+            rows[at + 1] = row.high;
         }
-        i += 1;
+        Checks { rows, count: m }
     }
-    true
-}
 
-// How many of four rows from row i on are odd.
-fn odd_of_four(rows: &[u64; 24], i: usize, low: u64, high: u64) -> u32
-    requires { i + 4 ≤ 12 }
-    ensures { result ≡ odd_of_four rows.now low high i }
-{
-    let two = oddness_of(rows, i, low, high) + oddness_of(rows, i + 1, low, high);
-    two + oddness_of(rows, i + 2, low, high) + oddness_of(rows, i + 3, low, high)
-}
+    // The ones, modulo 2, that the word has at the places of row i.
+    fn oddness_of(&self, i: usize, word: Word) -> u32
+        requires { i < 12 }
+        ensures { (result ≡ oddness self.now.rows word.low word.high i) × (result < 2) }
+    {
+        let at = 2 * i;
+        let common = (word.low & self.rows[at]) ^ (word.high & self.rows[at + 1]);
+        u64::count_ones(common) % 2
+    }
 
-// Whether the word with these halves has an even number of ones at the places of each of the m rows: the polynomial divides it. Four rows are looked
-// at together: at which row a word fails cannot be foretold, that it fails at one of four nearly can.
-pub fn all_even(rows: &[u64; 24], m: u64, low: u64, high: u64) -> bool
-    requires { m ≤ 12 }
-    ensures { result ≡ all_even rows.now m low high }
-{
-    let n = m as usize;
-    let mut i = 0;
-    while i + 4 <= n {
-        if odd_of_four(rows, i, low, high) != 0 {
-            return false;
+    // The rows from row `first` on, one by one.
+    fn rest_even(&self, first: usize, word: Word) -> bool
+        requires { first ≤ self.now.count }
+        ensures { result ≡ even_from self.now.rows self.now.count first word.low word.high }
+    {
+        (first..self.count as usize).all(|i| self.oddness_of(i, word) == 0)
+    }
+
+    // How many of four rows from row i on are odd.
+    fn odd_of_four(&self, i: usize, word: Word) -> u32
+        requires { i + 4 ≤ 12 }
+        ensures { result ≡ odd_of_four self.now.rows word.low word.high i }
+    {
+        let two = self.oddness_of(i, word) + self.oddness_of(i + 1, word);
+        two + self.oddness_of(i + 2, word) + self.oddness_of(i + 3, word)
+    }
+
+    // Whether the word has an even number of ones at the places of every row: the polynomial divides it. Four rows are looked at together: at which row
+    // a word fails cannot be foretold, that it fails at one of four nearly can.
+    pub fn all_even(&self, word: Word) -> bool
+        ensures { result ≡ all_even self.now.rows self.now.count word.low word.high }
+    {
+        let fours = self.count as usize / 4;
+        for k in 0..fours {
+            if self.odd_of_four(4 * k, word) != 0 {
+                return false;
+            }
         }
-        i += 4;
+        self.rest_even(4 * fours, word)
     }
-    rest_even(rows, n, i, low, high)
 }

@@ -8,9 +8,11 @@ use native.Mathlib.Nat.{le_refl, lt_of_not-le}
 use native.Mathlib.Decide.{le_ind, dec_le}
 use native.Mathlib.Numerals.{add-one}
 use native.Mathlib.Omega.{arith}
-use borrow.Author.Tests.{le-leb, lt-leb}
+use borrow.Author.Tests.{leb-true, le-leb, lt-leb}
 use lib.Dec.{leb}
 use lib.ListN.{length, get_or, take, drop}
+use Rattle.std.specs.Prelude.{Some, None}
+use Rattle.std.proofs.lemmas.Option.{none-some, cond_some}
 use Rattle.lists.specs.Lists.{sum}
 use Rattle.lists.proofs.Sums.{sum_last}
 use Rattle.lists.proofs.Tests.{and_yes, and_no}
@@ -41,38 +43,34 @@ pub sum_more : (counts : List ℕ) (k total limit : ℕ) → total ≡ paths_to 
 sum_more counts k total limit e h l =
     (sym (ap (paths_to counts) (add-one k) ∙ to_more counts k ∙ ap (λ (x : ℕ). x + get_or counts k 0) (sym e)), omega arith)
 
-pub sum_past : (counts : List ℕ) (k w total limit : ℕ) → k < w → total ≡ paths_to counts k → limit - total < get_or counts k 0 → total ≤ limit → limit + 1 ≡ sum_or counts w limit
+pub sum_past : (counts : List ℕ) (k w total limit : ℕ) → k < w → total ≡ paths_to counts k → limit - total < get_or counts k 0 → total ≤ limit → None ≡ sum_or counts w limit
 unfolding sum_or
 sum_past counts k w total limit h e p l =
     let m : paths_to counts (suc k) ≤ paths_to counts w = to_mono counts (suc k) w h in
     let past : limit < paths_to counts w = omega (arith, to_more counts k) in
-    sym (ap (λ (b : Bool). cond b (paths_to counts w) (limit + 1)) (lt-leb (paths_to counts w) limit past))
+    sym (ap (λ (b : Bool). cond b (Some (paths_to counts w)) None) (lt-leb (paths_to counts w) limit past))
 
-pub sum-all : (counts : List ℕ) (k w total limit : ℕ) → k ≡ w → total ≡ paths_to counts k → total ≤ limit → total ≡ sum_or counts w limit
+pub sum-all : (counts : List ℕ) (k w total limit : ℕ) → k ≡ w → total ≡ paths_to counts k → total ≤ limit → Some total ≡ sum_or counts w limit
 unfolding sum_or
 sum-all counts k w total limit ek e l =
     let t : total ≡ paths_to counts w = e ∙ ap (paths_to counts) ek in
-    t ∙ sym (ap (λ (b : Bool). cond b (paths_to counts w) (limit + 1)) (le-leb (paths_to counts w) limit (omega arith)))
+    ap Some t ∙ sym (ap (λ (b : Bool). cond b (Some (paths_to counts w)) None) (le-leb (paths_to counts w) limit (omega arith)))
 
 -- what a sum up to a limit says
-pub sum_within : (counts : List ℕ) (w limit x : ℕ) → x ≡ sum_or counts w limit → x ≤ limit → x ≡ paths_to counts w
+pub sum_told : (counts : List ℕ) (w limit x : ℕ) → Some x ≡ sum_or counts w limit → (x ≡ paths_to counts w) × (x ≤ limit)
 unfolding sum_or
-sum_within counts w limit x e h = by (leb (paths_to counts w) limit) e
-  where
-    by : (b : Bool) → x ≡ cond b (paths_to counts w) (limit + 1) → x ≡ paths_to counts w
-    by true f = f
-    by false f = absurd (omega arith)
+sum_told counts w limit x e =
+    let told = cond_some (leb (paths_to counts w) limit) (paths_to counts w) x (sym e) in
+    let within = leb-true (paths_to counts w) limit told.0 in
+    (sym told.1, omega (arith, within, told.1))
 
-sum_past_limit : (counts : List ℕ) (w limit x : ℕ) → x ≡ sum_or counts w limit → limit < x → limit < paths_to counts w
+sum_not_told : (counts : List ℕ) (w limit : ℕ) → None ≡ sum_or counts w limit → limit < paths_to counts w
 unfolding sum_or
-sum_past_limit counts w limit x e h =
+sum_not_told counts w limit e =
     elim (dec_le (paths_to counts w) limit) [
-      | yes l ↦ absurd (within l (e ∙ ap (λ (b : Bool). cond b (paths_to counts w) (limit + 1)) (le-leb (paths_to counts w) limit l)))
+      | yes l ↦ absurd (none-some (paths_to counts w) (e ∙ ap (λ (b : Bool). cond b (Some (paths_to counts w)) None) (le-leb (paths_to counts w) limit l)))
       | no n ↦ lt_of_not-le n
     ]
-  where
-    within : paths_to counts w ≤ limit → x ≡ paths_to counts w → ⊥
-    within l f = omega arith
 
 -- ---- when the part fits
 
@@ -89,12 +87,11 @@ module _ (counts : List ℕ) (w : ℕ) (table : List ℕ) where
   unfolding part_of part_number
   fits_of b e = (ap (λ (x : Bool). cond x found []) e, ap (λ (x : Bool). cond x 0 10) e)
 
-  -- nothing, and 10
   abbrev pub Refused : Type 0
-  Refused = ([] ≡ part_of counts w table) × (10 ≡ part_number counts w table)
+  Refused = 10 ≡ part_number counts w table
 
   refused_of : part_fits counts w table ≡ false → Refused
-  refused_of e = (sym (fits_of false e).0, sym (fits_of false e).1)
+  refused_of e = sym (fits_of false e).1
 
   pub no_weight_0 : w ≡ 0 → Refused
   unfolding part_fits from_to
@@ -113,26 +110,24 @@ module _ (counts : List ℕ) (w : ℕ) (table : List ℕ) where
     too_long : length table < 2 * paths_to counts w → Refused
     too_long l = refused_of (sym by_table ∙ lt-leb (2 * paths_to counts w) (length table) l)
 
-    -- what the sum up to the limit says
-    module _ (x : ℕ) (e : x ≡ sum_or counts (w - 1) (length table / 2)) where
-      pub starts_past : length table / 2 < x → Refused
-      starts_past l =
-          let p = sum_past_limit counts (w - 1) (length table / 2) x e l in
+    pub starts_past : None ≡ sum_or counts (w - 1) (length table / 2) → Refused
+    starts_past e =
+        let p = sum_not_told counts (w - 1) (length table / 2) e in
+        let here = to_weight counts w some in
+        too_long (omega arith)
+
+    module _ (x : ℕ) (e : Some x ≡ sum_or counts (w - 1) (length table / 2)) where
+      pub ends_past : length table / 2 - x < of_weight w counts → Refused
+      ends_past q =
+          let b = sum_told counts (w - 1) (length table / 2) x e in
           let here = to_weight counts w some in
-          too_long (omega arith)
+          too_long (omega (arith, b.0, b.1))
 
-      module _ (l : x ≤ length table / 2) where
-        pub ends_past : length table / 2 - x < of_weight w counts → Refused
-        ends_past q =
-            let b = sum_within counts (w - 1) (length table / 2) x e l in
-            let here = to_weight counts w some in
-            too_long (omega arith)
-
-        pub fits : of_weight w counts ≤ length table / 2 - x
-            → (take (2 * x + 2 * of_weight w counts - 2 * x) (drop (2 * x) table) ≡ part_of counts w table) × (0 ≡ part_number counts w table)
-        fits q =
-            let b = sum_within counts (w - 1) (length table / 2) x e l in
-            let here = to_weight counts w some in
-            let f : part_fits counts w table ≡ true = sym by_table ∙ le-leb (2 * paths_to counts w) (length table) (omega arith) in
-            let n : 2 * x + 2 * of_weight w counts - 2 * x ≡ 2 * of_weight w counts = omega arith in
-            (ap₂ (λ (i j : ℕ). take i (drop (2 * j) table)) n b ∙ sym (fits_of true f).0, sym (fits_of true f).1)
+      pub fits : of_weight w counts ≤ length table / 2 - x
+          → (take (2 * x + 2 * of_weight w counts - 2 * x) (drop (2 * x) table) ≡ part_of counts w table) × (0 ≡ part_number counts w table)
+      fits q =
+          let b = sum_told counts (w - 1) (length table / 2) x e in
+          let here = to_weight counts w some in
+          let f : part_fits counts w table ≡ true = sym by_table ∙ le-leb (2 * paths_to counts w) (length table) (omega (arith, b.0, b.1)) in
+          let n : 2 * x + 2 * of_weight w counts - 2 * x ≡ 2 * of_weight w counts = omega arith in
+          (ap₂ (λ (i j : ℕ). take i (drop (2 * j) table)) n b.0 ∙ sym (fits_of true f).0, sym (fits_of true f).1)

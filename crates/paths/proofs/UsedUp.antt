@@ -15,7 +15,7 @@ use Rattle.lists.proofs.Tests.{T_and}
 use Rattle.lists.proofs.Blocks.{flat_map_cong_on}
 use Rattle.lists.proofs.Choices.{eqb_passes, eqb_fails, cond_true, cond_false}
 use Rattle.events.specs.Events.{ErrorEvent}
-use Rattle.paths.specs.Chains.{steps, cost}
+use Rattle.paths.specs.Chains.{cost}
 use Rattle.paths.specs.Model.Joining.{turns, first_or, fits_in, joining, joined}
 use Rattle.paths.proofs.Joined.{first_or_again}
 use Rattle.paths.proofs.Pruned.{joined_none}

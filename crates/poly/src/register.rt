@@ -23,9 +23,8 @@ impl Register {
         let s = 2 * self.value + b;
         let top = s >> self.degree;
         Register {
-            degree: self.degree,
-            polynomial: self.polynomial,
             value: s ^ (top * self.polynomial),
+            ..self
         }
     }
 }
@@ -40,9 +39,7 @@ pub fn remainder_of(w: Word, bits: u64, m: u64, polynomial: u64) -> u64
         polynomial,
         value: 0,
     };
-    let mut i = bits;
-    while 0 < i {
-        i -= 1;
+    for i in (0..bits).rev() {
         r = r.take(bit_at(w, i));
     }
     r.value

@@ -16,11 +16,13 @@ ghost use Rattle.print.specs.Printed.{lent, printed_search, printed};
 ghost use Rattle.print.specs.Model.Steps.{counted};
 
 use calls::run;
-use events::Event;
+use events::NO_EVENT;
+use jobs::Tables;
 use order::record::{OrderRecord, read_order};
-use row::Answered;
+use order::refusal::Refusal;
+use row::Row;
 use search::choosing;
-use text::{lay_refusal, lay_row};
+use text::{RowText, lay_refusal, lay_row};
 
 // ---- the tables that are lent
 
@@ -31,23 +33,28 @@ fn search_events(
     plain: &mut [u64],
     undetected: &mut [u64],
     work: &mut [u64],
-) -> Answered
+) -> Result<Row, Refusal>
     requires { first_no (search_questions (order_in order) (length plain.old) (length undetected.old) (length work.old)) ≡ 0 }
     ensures { (answered_as result, (plain.new, undetected.new)) ≡ counted (search_call (order_in order) (search_tables (replicate 512 no_event) paths.old plain.old undetected.old work.old)) }
 {
     let plan = choosing(order);
-    let mut events = [Event {
-        state: 0,
-        length: 0,
-        weight: 0,
-        low: 0,
-        high: 0,
-    }; 512];
-    run(0, plan, &mut events, paths, plain, undetected, work)
+    let mut events = [NO_EVENT; 512];
+    let tables = Tables {
+        events: &mut events,
+        paths,
+        plain,
+        undetected,
+        work,
+    };
+    run(Ok(()), plan, tables)
 }
 
 // The search with every table but the counts.
-fn search_paths(order: OrderRecord, plain: &mut [u64], undetected: &mut [u64]) -> Answered
+fn search_paths(
+    order: OrderRecord,
+    plain: &mut [u64],
+    undetected: &mut [u64],
+) -> Result<Row, Refusal>
     requires { first_no (search_questions (order_in order) (length plain.old) (length undetected.old) work_size) ≡ 0 }
     ensures { (answered_as result, (plain.new, undetected.new)) ≡ counted (search_call (order_in order) (search_tables (replicate 512 no_event) (replicate 4096 0) plain.old undetected.old (replicate work_size 0))) }
 {
@@ -60,17 +67,25 @@ fn search_paths(order: OrderRecord, plain: &mut [u64], undetected: &mut [u64]) -
 
 fn print_answer(
     o: OrderRecord,
-    a: Answered,
+    a: Result<Row, Refusal>,
     plain: &[u64],
     undetected: &[u64],
     text: &mut [u8],
 ) -> usize
-    requires { RowAccepted o.n o.d (length plain.now) (length undetected.now) (length text.old) }
+    requires { RowAccepted o.n o.d (length plain.now) (length undetected.now) × (4096 ≤ length text.old) }
     ensures { Laid (answer_text (order_in o) (answered_as a) plain.now undetected.now) text.old text.new result }
 {
     match a {
-        Answered::Row(row) => lay_row(o, row, plain, undetected, text),
-        Answered::Refused(k) => lay_refusal(k, text),
+        Ok(row) => {
+            let found = RowText {
+                order: o,
+                row,
+                plain,
+                undetected,
+            };
+            lay_row(found, text)
+        }
+        Err(late) => lay_refusal(u64::from(late), text),
     }
 }
 
@@ -89,10 +104,8 @@ pub fn print(bytes: &[u8], text: &mut [u8]) -> usize
     requires { 4096 ≤ length text.old }
     ensures { (text.new ≡ padded (length text.old) 0 (printed bytes.now)) × (result ≡ length (printed bytes.now)) }
 {
-    let reading = read_order(bytes);
-    if reading.refusal != 0 {
-        return lay_refusal(reading.refusal, text);
+    match read_order(bytes) {
+        Ok(order) => print_order(order, text),
+        Err(refusal) => lay_refusal(u64::from(refusal), text),
     }
-    let order = reading.order;
-    print_order(order, text)
 }

@@ -6,6 +6,7 @@ use native.Mathlib.Omega.{arith}
 use mathlib.Core.Path.{◌≡◌, refl, sym, ap, ◌∙◌, subst}
 use mathlib.Core.Logic.{◌↔◌, inl, inr}
 use mathlib.Core.List.{[], ◌∷◌}
+use Rattle.std.specs.Prelude.{Result}
 use lib.ListN.{length}
 use Rattle.lists.proofs.Tests.{lt_or_ge}
 use Rattle.lists.proofs.Lengths.{length-filter_le}
@@ -14,6 +15,7 @@ use Rattle.order.specs.Order.{Order, with_length}
 use Rattle.order.specs.Answer.{Answer, accepted, refused, unless_refused}
 use Rattle.order.specs.Answers.{order_in}
 use Rattle.order.specs.declared.record.OrderRecord.{OrderRecord}
+use Rattle.order.specs.declared.refusal.Refusal.{Refusal}
 use Rattle.order.proofs.FirstNo.{leaves_refused, leaves_answered, refused_not_accepted}
 use Rattle.code.specs.Links.{steps_of}
 use Rattle.events.specs.Events.{events}
@@ -22,7 +24,6 @@ use Rattle.paths.specs.Paths.{paths, path_room}
 use Rattle.jobs.proofs.Fits.{too_many_events, too_many_paths, all_fit}
 use Rattle.choice.specs.Choice.{Choice, choice}
 use Rattle.row.specs.declared.Row.{Row}
-use Rattle.row.specs.declared.Answered.{Answered}
 use Rattle.row.specs.Answered.{answered_as}
 use Rattle.lengths.specs.Model.Noted.{AllFit, OneTooMany}
 use Rattle.jobs.specs.declared.Job.TheVariants as J
@@ -157,7 +158,7 @@ quote_promise o N' lent = record {
 }
 
 -- of what `quote` answers and leaves: its contract is the premise
-pub quote_promises : (order : OrderRecord) (N' : ℕ) (lent left : SearchTables) (r : Answered) → (answered_as r, left) ≡ quote_call (order_in order) N' lent
+pub quote_promises : (order : OrderRecord) (N' : ℕ) (lent left : SearchTables) (r : Result Row Refusal) → (answered_as r, left) ≡ quote_call (order_in order) N' lent
     → QuotePromise (order_in order) N' lent (answered_as r) left
 quote_promises order N' lent left r e =
     subst (λ (x : Outcome). QuotePromise (order_in order) N' lent x.0 x.1) (sym e) (quote_promise (order_in order) N' lent)

@@ -4,17 +4,17 @@
 ghost use Rattle.std.specs.Prelude.{◌≡◌};
 ghost use Rattle.order.specs.Answers.{order_in};
 ghost use Rattle.row.specs.Answered.{answered_as};
-ghost use Rattle.lengths.specs.Shorter.{none_shorter};
 ghost use Rattle.jobs.specs.Jobs.{search_tables};
-ghost use Rattle.quote.specs.Calls.{longest_quoted, quotable, quote_call};
+ghost use Rattle.calls.specs.Model.Plans.{call_in};
+ghost use Rattle.quote.specs.Calls.{longest_quoted, quoting, quote_call};
 
 use calls::call;
 use events::Event;
-use jobs::{Job, Plan};
-use lengths::NONE_SHORTER;
+use jobs::{Job, Plan, Tables};
 use order::questions::{LONGEST_WORD, Takes};
 use order::record::OrderRecord;
-use row::Answered;
+use order::refusal::Refusal;
+use row::Row;
 
 // The longest length that may be quoted: the order's own, where that has at most 128 bits.
 fn longest_quoted(bits: u64) -> u64
@@ -27,8 +27,9 @@ fn longest_quoted(bits: u64) -> u64
 }
 
 // The plan: tail-biting links, lengths up to the order's own, and everything.
-fn quoting(order: OrderRecord, bits: u64) -> Plan
-    ensures { result ≡ record { order = order; takes = quotable order.bits; bits = bits; shorter = none_shorter; job = Job.Choose } }
+fn quoting(order: OrderRecord, bits: u64) -> Plan<'static>
+    ensures call { call_in result ≡ quoting (order_in order) bits }
+    ensures order { result.order ≡ order }
 {
     Plan {
         order,
@@ -39,7 +40,7 @@ fn quoting(order: OrderRecord, bits: u64) -> Plan
             threshold: true,
         },
         bits,
-        shorter: NONE_SHORTER,
+        shorter: &[],
         job: Job::Choose,
     }
 }
@@ -55,9 +56,16 @@ pub fn quote(
     plain: &mut [u64],
     undetected: &mut [u64],
     work: &mut [u64],
-) -> Answered
+) -> Result<Row, Refusal>
     ensures { (answered_as result, search_tables events.new paths.new plain.new undetected.new work.new) ≡ quote_call (order_in order) bits (search_tables events.old paths.old plain.old undetected.old work.old) }
 {
     let plan = quoting(order, bits);
-    call(plan, events, paths, plain, undetected, work)
+    let tables = Tables {
+        events,
+        paths,
+        plain,
+        undetected,
+        work,
+    };
+    call(plan, tables)
 }

@@ -1,21 +1,13 @@
 -- A number with another set above it, a + x * 2^p where a < 2^p, in two halves of 64 bits as the code computes it: no sum of halves overflows.
 -- Assumes nothing.
 use Prim.Native.Nat.{ℕ, ◌+◌, ◌-◌, ◌*◌, ◌/◌, ◌%◌, ◌^◌, ◌≤◌, ◌<◌}
-use native.Mathlib.Nat.{zero-add, add-zero, zero-mul, mul-one, one-mul, mul_assoc, mod-eq_of_lt, lt_of_mul-lt-mul_right, mul-le-mul_left, sub-add_cancel}
+use native.Mathlib.Nat.{zero-add, add-zero, zero-mul, one-mul, mul_assoc, mod-eq_of_lt, lt_of_mul-lt-mul_right, mul-le-mul_left, sub-add_cancel}
 use native.Mathlib.Decide.{dec_lt}
 use native.Mathlib.Omega.{arith}
 use mathlib.Core.Path.{◌≡◌, sym, ap, ap₂, ◌∙◌, subst}
 use lib.Arith.{lt-one}
 use lib.Pow.{pow_pos, pow-add, pow-lt, pow_mono}
 use Rattle.poly.proofs.Shifts.{beside_fits, up_halves}
-
--- ---- place 0
-
-pub joined-first : (h l g m p : ℕ) → p ≡ 0 → g * 2 ^ 64 + m < 2 ^ p → h * 2 ^ 64 + l ≡ g * 2 ^ 64 + m + (h * 2 ^ 64 + l) * 2 ^ p
-joined-first h l g m p e s =
-    let one : 2 ^ p ≡ 1 = ap (λ (x : ℕ). 2 ^ x) e in
-    let none : g * 2 ^ 64 + m ≡ 0 = lt-one (subst (λ (x : ℕ). g * 2 ^ 64 + m < x) one s) in
-    sym (ap₂ (λ (x y : ℕ). x + (h * 2 ^ 64 + l) * y) none one ∙ zero-add ((h * 2 ^ 64 + l) * 1) ∙ mul-one (h * 2 ^ 64 + l))
 
 -- ---- places 1 to 63
 

@@ -56,11 +56,9 @@ pub fn push_turns(table: &mut [u64], at: usize, bits: u64, first: u64, w: Word) 
     }
     let mut next = at;
     let mut u = w;
-    let mut r = 0;
-    while r < first {
+    for r in 0..first {
         next = push(table, next, u);
-        r += 1;
-        if r < first {
+        if r + 1 < first {
             u = turn_back(u, bits);
         }
     }

@@ -1,8 +1,8 @@
 #![tactic(auto)]
-// What a call over lent tables answers: the numbers of a row, or a refusal.
-// The functions here are for the crates above; docs/DECISIONS.md lists them as internal.
+// What a call over lent tables answers: the numbers of a row.
+// The function here is for the crates above; docs/DECISIONS.md lists it as internal.
 ghost use Rattle.std.specs.Prelude.{◌≡◌};
-ghost use Rattle.row.specs.Answered.{refusal_of};
+ghost use Rattle.row.specs.Answered.{row};
 
 // How many events and paths there are, the check polynomial, and how many share its counts, it among them. 0 for what a call does not tell.
 #[repr(C)]
@@ -14,36 +14,13 @@ pub struct Row {
     pub shared: u64,
 }
 
-// A row's numbers, or the number of the question that says no.
-#[derive(Clone, Copy)]
-pub enum Answered {
-    Row(Row),
-    Refused(u64),
-}
-
-pub fn answer(events: usize, paths: usize, polynomial: u64, shared: u64) -> Answered
-    ensures { result ≡ Answered.Row record { events = events; paths = paths; polynomial = polynomial; shared = shared } }
+pub fn row_of(events: usize, paths: usize, polynomial: u64, shared: u64) -> Row
+    ensures { result ≡ row events paths polynomial shared }
 {
-    Answered::Row(Row {
+    Row {
         events: events as u64,
         paths: paths as u64,
         polynomial,
         shared,
-    })
-}
-
-pub fn refuse(number: u64) -> Answered
-    ensures { result ≡ Answered.Refused number }
-{
-    Answered::Refused(number)
-}
-
-// The number of the refusal, or 0.
-pub fn refusal_of(a: Answered) -> u64
-    ensures { result ≡ refusal_of a }
-{
-    match a {
-        Answered::Row(_row) => 0,
-        Answered::Refused(number) => number,
     }
 }

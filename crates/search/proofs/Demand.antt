@@ -7,6 +7,7 @@ use Prim.Native.Nat.{ℕ}
 use mathlib.Core.Path.{◌≡◌, sym, ap, ◌∙◌, subst}
 use mathlib.Core.Logic.{◌↔◌, ◌⊎◌, inl, inr, ⊎_elim}
 use mathlib.Core.List.{[], ◌∷◌}
+use Rattle.std.specs.Prelude.{Result}
 use lib.ListN.{length}
 use Rattle.lists.specs.Lists.{padded}
 use Rattle.order.specs.Questions.{first_no}
@@ -15,6 +16,7 @@ use Rattle.order.specs.Answer.{Answer, accepted, refused}
 use Rattle.order.specs.Answers.{order_in}
 use Rattle.order.specs.Model.Accepted.{AcceptedCode, AcceptedWhole}
 use Rattle.order.specs.declared.record.OrderRecord.{OrderRecord}
+use Rattle.order.specs.declared.refusal.Refusal.{Refusal}
 use Rattle.order.proofs.FirstNo.{none_in_parts, refused_not_accepted}
 use Rattle.order.proofs.Asked.{numbered_order, accepted_whole}
 use Rattle.events.specs.Events.{events}
@@ -26,7 +28,6 @@ use Rattle.choice.specs.Choice.{choice}
 use Rattle.choice.proofs.ByWeight.{none_undetected}
 use Rattle.choice.proofs.Chosen.{choice-first-best, choice_counts}
 use Rattle.row.specs.declared.Row.{Row}
-use Rattle.row.specs.declared.Answered.{Answered}
 use Rattle.row.specs.Answered.{row, answered_as}
 use Rattle.jobs.specs.Jobs.{SearchTables, filled_search, chosen, rows_of, made, ran}
 use Rattle.calls.specs.Calls.{questions, call}
@@ -101,5 +102,5 @@ pub demand_3 : (o : Order) (lent : SearchTables) → Promise o lent (search_call
 demand_3 o t = record { names_best = names_best o t; accepts_exactly = accepts_exactly o t }
 
 -- of what `search` answers and leaves: its contract is the premise
-pub search_promises : (order : OrderRecord) (lent left : SearchTables) (r : Answered) → (answered_as r, left) ≡ search_call (order_in order) lent → Promise (order_in order) lent (answered_as r) left
+pub search_promises : (order : OrderRecord) (lent left : SearchTables) (r : Result Row Refusal) → (answered_as r, left) ≡ search_call (order_in order) lent → Promise (order_in order) lent (answered_as r) left
 search_promises order lent left r e = subst (λ (x : Answer Row × SearchTables). Promise (order_in order) lent x.0 x.1) (sym e) (demand_3 (order_in order) lent)

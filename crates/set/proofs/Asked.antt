@@ -1,26 +1,24 @@
 -- The questions of a set of lengths, asked part by part, and what they let the job assume (`to_make_set`).
 -- Assumes nothing.
-use Prim.Native.Nat.{ℕ, zero, suc, ◌+◌, ◌-◌, ◌≤◌, ◌<◌}
-use native.Mathlib.Nat.{le_refl, le_trans}
+use Prim.Native.Nat.{ℕ, ◌≤◌, ◌<◌}
+use native.Mathlib.Nat.{le_refl}
 use native.Mathlib.Decide.{ℕ_discrete}
 use native.Mathlib.Omega.{arith}
-use mathlib.Core.Path.{◌≡◌, refl, sym, ap, ap₂, ◌∙◌, subst}
-use mathlib.Core.Bool.{Bool, true, false, ◌&&◌}
-use mathlib.Core.Logic.{◌⊎◌, inl, inr, ⊎_elim}
-use mathlib.Core.List.{List, [], ◌∷◌, ◌++◌, map}
+use mathlib.Core.Path.{◌≡◌, refl, sym, ap, ap₂, ◌∙◌}
+use mathlib.Core.Bool.{true, false, ◌&&◌}
+use mathlib.Core.List.{List, [], ◌∷◌, ◌++◌}
 use borrow.Author.Tests.{le-leb}
 use lib.ListN.{length, get_or}
 use Rattle.lists.specs.Lists.{all}
 use Rattle.lists.proofs.Tests.{both}
 use Rattle.lists.proofs.Scan.{all_at}
 use Rattle.order.specs.Questions.{Question, first_no, from_to, highest_version, longest_word, link_kind, generator_count, memory, word_length, shape_questions}
-use Rattle.order.specs.Order.{Order, with_length, everything}
+use Rattle.order.specs.Order.{Order, with_length}
 use Rattle.order.specs.Answers.{order_in}
-use Rattle.order.specs.Model.Accepted.{Accepted, AcceptedWhole}
 use Rattle.order.specs.declared.record.OrderRecord.{OrderRecord}
 use Rattle.order.proofs.Answers.{range}
 use Rattle.order.proofs.FirstNo.{Numbered, first_no_none, first_no_yes, first_no_no, asked, none_in_parts, refused_first, refused_later}
-use Rattle.order.proofs.Asked.{length-order_in, numbered_order, accepted_whole}
+use Rattle.order.proofs.Asked.{length-order_in}
 use Rattle.search.specs.Calls.{search_questions}
 use Rattle.set.specs.Calls.{falling, shortest, kind_questions, length_questions, set_questions}
 

@@ -9,17 +9,18 @@ use mathlib.Core.Logic.{◌⊎◌, inl, inr, ⊎_elim}
 use mathlib.Core.List.Memᴰ
 use mathlib.Core.List.{List, [], ◌∷◌, Memᴰ}
 use lib.ListN.{length}
+use Rattle.std.specs.Prelude.{Result}
 use Rattle.lists.specs.Lists.{all, padded}
 use Rattle.order.specs.Questions.{Question, first_no, from_to, shape_questions}
 use Rattle.order.specs.Order.{Order, with_length, everything, order_questions}
-use Rattle.order.specs.Answer.{Answer, accepted, refused, unless_refused}
+use Rattle.order.specs.Answer.{accepted, refused, unless_refused}
 use Rattle.order.specs.Answers.{order_in}
 use Rattle.order.specs.declared.record.OrderRecord.{OrderRecord}
+use Rattle.order.specs.declared.refusal.Refusal.{Refusal}
 use Rattle.order.specs.Model.Accepted.{AcceptedWhole}
 use Rattle.order.proofs.FirstNo.{none_in_parts, refused_not_accepted}
 use Rattle.order.proofs.Asked.{numbered_order, accepted_whole}
 use Rattle.row.specs.declared.Row.{Row}
-use Rattle.row.specs.declared.Answered.{Answered}
 use Rattle.row.specs.Answered.{row, answered_as}
 use Rattle.events.specs.Events.{events}
 use Rattle.paths.specs.Paths.{paths, path_room}
@@ -148,6 +149,6 @@ set_promise o Ns t = record {
 }
 
 -- of what `search_set` answers and leaves: its contract is the premise
-pub set_promises : (order : OrderRecord) (Ns : List ℕ) (lent left : SearchTables) (r : Answered) → (answered_as r, left) ≡ set_call (order_in order) Ns lent
+pub set_promises : (order : OrderRecord) (Ns : List ℕ) (lent left : SearchTables) (r : Result Row Refusal) → (answered_as r, left) ≡ set_call (order_in order) Ns lent
     → SetPromise (order_in order) Ns lent (answered_as r) left
 set_promises order Ns lent left r e = subst (λ (x : Outcome). SetPromise (order_in order) Ns lent x.0 x.1) (sym e) (set_promise (order_in order) Ns lent)

@@ -1,38 +1,41 @@
--- Falling lists of lengths: taken one at a time, and what passing question 17 says of each.
+-- Falling lists of lengths: what tells them, and what passing question 17 says of each length.
 -- Assumes nothing.
-use Prim.Native.Nat.{ℕ, zero, suc, ◌+◌, ◌-◌, ◌≤◌, ◌<◌}
+use Prim.Native.Nat.{ℕ, zero, suc, ◌≤◌, ◌<◌}
 use native.Mathlib.Omega.{arith}
-use mathlib.Core.Path.{◌≡◌, refl, sym, ap, ◌∙◌, subst}
+use native.Mathlib.Numerals.{add-one}
+use mathlib.Core.Path.{◌≡◌, refl, sym, ap, ap₂, ◌∙◌}
 use mathlib.Core.Bool.{Bool, true, false, ◌&&◌}
 use mathlib.Core.List.{List, [], ◌∷◌}
-use borrow.Author.Tests.{lt-ltb, le-ltb, ltb-true}
+use borrow.Author.Tests.{ltb-true}
 use lib.Dec.{ltb}
-use lib.ListN.{length, get_or, drop, drop_of_length-le}
+use lib.ListN.{length, get_or}
+use Rattle.std.specs.List.{IsAllAdjacentAnswer}
 use Rattle.lists.proofs.Tests.{both}
-use Rattle.lists.proofs.Scan.{drop-next}
-use Rattle.set.specs.Calls.{all_below, falling, shortest}
+use Rattle.set.specs.Calls.{all_below, falling}
 
--- ---- the loop
+-- ---- each below the one before, as `is_sorted_by` says it
 
-pub falling_begin : (l : List ℕ) → 1 ≤ length l → falling l ≡ all_below (get_or l 0 0) (drop 1 l)
+falls : (N : ℕ) (Ns : List ℕ) → ((k : ℕ) → suc k < length (N ∷ Ns) → true ≡ ltb (get_or Ns k 0) (get_or (N ∷ Ns) k 0)) → all_below N Ns ≡ true
+unfolding all_below
+falls N [] h = refl
+falls N (M ∷ Ns) h = ap₂ ◌&&◌ (sym (h 0 (omega arith))) (falls M Ns (λ k l. h (suc k) (omega arith)))
+
+rises : (N : ℕ) (Ns : List ℕ) (k : ℕ) → suc k < length (N ∷ Ns) → false ≡ ltb (get_or Ns k 0) (get_or (N ∷ Ns) k 0) → all_below N Ns ≡ false
+unfolding all_below
+rises N [] k h e = absurd (omega arith)
+rises N (M ∷ Ns) zero h e = ap (λ (b : Bool). b && all_below M Ns) (sym e)
+rises N (M ∷ Ns) (suc k) h e = ap (λ (b : Bool). ltb M N && b) (rises M Ns k (omega arith) e) ∙ none (ltb M N)
+  where
+    none : (b : Bool) → (b && false) ≡ false
+    none true = refl
+    none false = refl
+
+pub is_falling : (l : List ℕ) (r : Bool) → IsAllAdjacentAnswer (λ (x y : ℕ) (b : Bool). b ≡ ltb y x) l r → r ≡ falling l
 unfolding falling
-falling_begin [] h = absurd (omega arith)
-falling_begin (N ∷ Ns) h = refl
-
-module _ (l : List ℕ) (N i : ℕ) where
-  next_is : i < length l → all_below N (drop i l) ≡ (ltb (get_or l i 0) N && all_below (get_or l i 0) (drop (i + 1) l))
-  unfolding all_below
-  next_is h = ap (all_below N) (drop-next (λ _. true) l 0 i h)
-
-  pub falls_on : i < length l → get_or l i 0 < N → all_below N (drop i l) ≡ all_below (get_or l i 0) (drop (i + 1) l)
-  falls_on h less = next_is h ∙ ap (λ (b : Bool). b && all_below (get_or l i 0) (drop (i + 1) l)) (lt-ltb (get_or l i 0) N less)
-
-  pub rises : i < length l → N ≤ get_or l i 0 → all_below N (drop i l) ≡ false
-  rises h more = next_is h ∙ ap (λ (b : Bool). b && all_below (get_or l i 0) (drop (i + 1) l)) (le-ltb (get_or l i 0) N more)
-
-  pub falls_end : length l ≤ i → all_below N (drop i l) ≡ true
-  unfolding all_below
-  falls_end h = ap (all_below N) (drop_of_length-le l h)
+is_falling [] true h = refl
+is_falling [] false h = absurd (omega (arith, h.1))
+is_falling (N ∷ Ns) true h = sym (falls N Ns (λ k l. rw add-one at (h k 0 (omega arith))))
+is_falling (N ∷ Ns) false h = sym (rises N Ns h.0 (omega (arith, h.1)) (rw add-one at (h.2 0)))
 
 -- ---- what a falling list is
 

@@ -1,21 +1,17 @@
 -- The plan for a set of lengths: what its questions let its job assume (`to_make_set`), and that its job makes the row of the set (`set-made`).
 -- Assumes nothing.
-use Prim.Native.Nat.{ℕ, zero, suc, ◌+◌, ◌-◌, ◌≤◌, ◌<◌}
-use native.Mathlib.Nat.{le_refl, le_trans}
+use Prim.Native.Nat.{ℕ, ◌+◌, ◌-◌, ◌≤◌, ◌<◌}
 use native.Mathlib.Omega.{arith}
 use mathlib.Core.Path.{◌≡◌, refl, sym, ap, ap₂, ◌∙◌, subst}
-use mathlib.Core.Logic.{◌⊎◌, inl, inr, ⊎_elim}
-use mathlib.Core.List.{List, [], ◌∷◌, map}
-use lib.ListN.{length, get_or}
-use lib.Seq.{ext_get_or}
-use Rattle.lists.specs.Lists.{up_from}
-use Rattle.lists.proofs.Lengths.{length-map-up_from, get_or-map-up_from}
+use mathlib.Core.Logic.{⊎_elim}
+use mathlib.Core.List.{List, [], ◌∷◌}
+use lib.ListN.{length, get_or, drop, length-drop}
+use lib.Seq.{get_or-drop}
 use Rattle.order.specs.Questions.{first_no, longest_word, work_size}
 use Rattle.order.specs.Order.{Order, with_length, everything}
 use Rattle.order.specs.Answers.{order_in}
 use Rattle.order.specs.Answer.{Answer}
-use Rattle.order.specs.Model.Accepted.{Accepted, AcceptedWhole}
-use Rattle.order.specs.declared.record.OrderRecord.{OrderRecord}
+use Rattle.order.specs.Model.Accepted.{Accepted}
 use Rattle.order.specs.Model.Lengths.{NoLonger}
 use Rattle.order.proofs.FirstNo.{none_in_parts}
 use Rattle.order.proofs.Asked.{numbered_order, accepted_whole}
@@ -23,11 +19,10 @@ use Rattle.order.proofs.Lengths.{no_longer_itself}
 use Rattle.row.specs.declared.Row.{Row}
 use Rattle.undetected.specs.Undetected.{undetected_counts}
 use Rattle.choice.specs.Choice.{candidates, first_of, Choice, choice_among}
-use Rattle.narrowing.specs.Narrowed.{narrowed, longest, set_choice}
+use Rattle.narrowing.specs.Narrowed.{longest, set_choice}
 use Rattle.narrowing.proofs.Narrowed.{narrowed-any}
 use Rattle.narrowing.proofs.OneLength.{one_length}
-use Rattle.lengths.specs.declared.Shorter.{Shorter}
-use Rattle.lengths.specs.Shorter.{length_at, shorter_in, for_each}
+use Rattle.lengths.specs.Shorter.{for_each}
 use Rattle.jobs.specs.declared.Job.{Job}
 use Rattle.jobs.specs.declared.Job.TheVariants as J
 use Rattle.jobs.specs.declared.Plan.{Plan}
@@ -37,7 +32,7 @@ use Rattle.calls.specs.Calls.{questions}
 use Rattle.calls.proofs.Accepts.{chosen_rooms}
 use Rattle.search.specs.Calls.{search_questions}
 use Rattle.set.specs.Calls.{shortest, set_questions, set_row}
-use Rattle.set.specs.Model.Plans.{AfterFirst, PlannedFor}
+use Rattle.set.specs.Model.Plans.{PlannedFor}
 use Rattle.set.proofs.Lists.{at_most_first}
 use Rattle.set.proofs.Asked.{Passed, passed}
 
@@ -46,33 +41,12 @@ unfolding first_of
 first_is [] = refl
 first_is (N ∷ Ns) = refl
 
--- ---- the lengths after the first
+-- ---- the first length, and those after it
 
-abbrev rest : List ℕ → List ℕ
-rest [] = []
-rest (N ∷ Ns) = Ns
-
-split : (Ns : List ℕ) → 1 ≤ length Ns → Ns ≡ first_of Ns ∷ rest Ns
+split : (Ns : List ℕ) → 1 ≤ length Ns → Ns ≡ first_of Ns ∷ drop 1 Ns
 unfolding first_of
 split [] h = absurd (omega arith)
 split (N ∷ Ns) h = refl
-
-length_rest : (Ns : List ℕ) → length (rest Ns) ≡ length Ns - 1
-length_rest [] = refl
-length_rest (N ∷ Ns) = omega arith
-
-rest_at : (Ns : List ℕ) (i : ℕ) → get_or Ns (i + 1) 0 ≡ get_or (rest Ns) i 0
-rest_at [] i = refl
-rest_at (N ∷ Ns) i = let e : i + 1 ≡ suc i = omega arith in ap (λ (k : ℕ). get_or (N ∷ Ns) k 0) e
-
-after_is : (Ns : List ℕ) (s : Shorter) → AfterFirst Ns s → shorter_in s ≡ rest Ns
-unfolding shorter_in
-after_is Ns s a =
-    let long = length-map-up_from (length_at s) 0 s.count in
-    ext_get_or 0 (map (length_at s) (up_from 0 s.count)) (rest Ns) (omega (arith, long, a.count, length_rest Ns)) (λ i h.
-    let below : i < s.count = omega (arith, long, h) in
-    let e : 0 + i ≡ i = omega arith in
-    get_or-map-up_from (length_at s) 0 s.count i 0 below ∙ ap (length_at s) e ∙ a.each i (omega (arith, a.count)) ∙ rest_at Ns i)
 
 no_rest : (Ms : List ℕ) → length Ms ≡ 0 → Ms ≡ []
 no_rest [] h = refl
@@ -115,7 +89,7 @@ module _ {o : Order} {Ns : List ℕ} {plan : Plan} (planned : PlannedFor o Ns pl
         let q : Order = with_length (shortest Ns) o in
         let parts = none_in_parts _ _ (numbered_order everything q) here.search in
         let whole = accepted_whole q parts.0 in
-        chosen_rooms q whole.order plan.shorter plain undetected work whole.degree parts.1
+        chosen_rooms q whole.order plan.shorter.now plain undetected work whole.degree parts.1
 
     -- the order is accepted for any of the lengths
     accepted_at : (N : ℕ) → o.v ≤ N → N ≤ longest_word → Accepted (with_length N o)
@@ -158,26 +132,26 @@ module _ {o : Order} {Ns : List ℕ} {plan : Plan} (planned : PlannedFor o Ns pl
           undetected_room = a.undetected_room;
         }
 
-    serves : AfterFirst Ns plan.shorter → ToServe plan.shorter (longest o Ns)
+    serves : ToServe (drop 1 Ns) (longest o Ns)
     unfolding longest with_length
-    serves a =
+    serves =
         let few = here.few in
-        let count = a.count in
+        let count = length-drop 1 Ns in
         record {
           few = omega arith;
-          each = λ i h. subst (λ (N : ℕ). Accepted (with_length N o)) (sym (a.each i (omega arith))) (at (i + 1) (omega arith));
+          each = λ i h. subst (λ (N : ℕ). Accepted (with_length N o)) (sym (get_or-drop 1 Ns i 0)) (at (1 + i) (omega arith));
           shorter = λ i h.
-              let e = a.each i (omega arith) in
-              let low = at_most_first Ns here.falls (i + 1) (omega arith) in
+              let e = get_or-drop 1 Ns i 0 in
+              let low = at_most_first Ns here.falls (1 + i) (omega arith) in
               let top = first_is Ns in
               omega arith;
         }
 
-    asked_for : JobAsks plan.job plan.shorter (longest o Ns) plain undetected
+    asked_for : JobAsks plan.job plan.shorter.now (longest o Ns) plain undetected
     unfolding JobAsks
     asked_for = ⊎_elim
-        (λ one. subst (λ (job : Job). JobAsks job plan.shorter (longest o Ns) plain undetected) (sym one.1) of_longest)
-        (λ more. subst (λ (job : Job). JobAsks job plan.shorter (longest o Ns) plain undetected) (sym more.0) (of_longest, serves more.1))
+        (λ one. subst (λ (job : Job). JobAsks job plan.shorter.now (longest o Ns) plain undetected) (sym one.1) of_longest)
+        (λ more. subst (λ (job : Job). JobAsks job plan.shorter.now (longest o Ns) plain undetected) (sym more.0) (of_longest, subst (λ (Ms : List ℕ). ToServe Ms (longest o Ns)) (sym more.1) serves))
         planned.job
 
     pub to_make_set : ToMake plan plain undetected work
@@ -187,7 +161,7 @@ module _ {o : Order} {Ns : List ℕ} {plan : Plan} (planned : PlannedFor o Ns pl
           collected = subst Accepted (sym planned.order) of_longest.list.order;
           no_longer = subst (λ (x : Order). NoLonger x (order_in plan.order)) (planned.order ∙ sym row) (no_longer_itself (order_in plan.order));
           wide = asks.1;
-          job = subst (λ (x : Order). JobAsks plan.job plan.shorter x plain undetected) (sym row) asked_for;
+          job = subst (λ (x : Order). JobAsks plan.job plan.shorter.now x plain undetected) (sym row) asked_for;
         }
 
   -- ---- what is made
@@ -200,22 +174,22 @@ module _ {o : Order} {Ns : List ℕ} {plan : Plan} (planned : PlannedFor o Ns pl
     l = longest o Ns
 
     -- of one length, as the search
-    one_made : length Ns ≡ 1 → ran J.Choose (shorter_in plan.shorter) l l t ≡ set_row o Ns t
+    one_made : length Ns ≡ 1 → ran J.Choose plan.shorter.now l l t ≡ set_row o Ns t
     unfolding longest first_of
     one_made one =
-        let e : Ns ≡ first_of Ns ∷ [] = split Ns some ∙ ap (λ (Ms : List ℕ). first_of Ns ∷ Ms) (no_rest (rest Ns) (omega (arith, length_rest Ns, one))) in
-        subst (λ (Ms : List ℕ). ran J.Choose (shorter_in plan.shorter) (longest o Ms) (longest o Ms) t ≡ set_row o Ms t) (sym e) (sym (row_of_one o (first_of Ns) (shorter_in plan.shorter) t))
+        let e : Ns ≡ first_of Ns ∷ [] = split Ns some ∙ ap (λ (Ms : List ℕ). first_of Ns ∷ Ms) (no_rest (drop 1 Ns) (omega (arith, length-drop 1 Ns, one))) in
+        subst (λ (Ms : List ℕ). ran J.Choose plan.shorter.now (longest o Ms) (longest o Ms) t ≡ set_row o Ms t) (sym e) (sym (row_of_one o (first_of Ns) plan.shorter.now t))
 
-    more_made : AfterFirst Ns plan.shorter → ran J.ChooseFor (shorter_in plan.shorter) l l t ≡ set_row o Ns t
+    more_made : plan.shorter.now ≡ drop 1 Ns → ran J.ChooseFor plan.shorter.now l l t ≡ set_row o Ns t
     unfolding longest first_of
-    more_made a =
-        ap (λ (Ms : List ℕ). ran J.ChooseFor Ms l l t) (after_is Ns plan.shorter a)
-        ∙ subst (λ (Ms : List ℕ). ran J.ChooseFor (rest Ns) (longest o Ms) (longest o Ms) t ≡ set_row o Ms t) (sym (split Ns some)) (row_of_more o (first_of Ns) (rest Ns) t)
+    more_made after =
+        ap (λ (Ms : List ℕ). ran J.ChooseFor Ms l l t) after
+        ∙ subst (λ (Ms : List ℕ). ran J.ChooseFor (drop 1 Ns) (longest o Ms) (longest o Ms) t ≡ set_row o Ms t) (sym (split Ns some)) (row_of_more o (first_of Ns) (drop 1 Ns) t)
 
-    pub set-made : ran plan.job (shorter_in plan.shorter) (order_in plan.order) (row_order plan) t ≡ set_row o Ns t
+    pub set-made : ran plan.job plan.shorter.now (order_in plan.order) (row_order plan) t ≡ set_row o Ns t
     set-made =
-        ap₂ (λ (x y : Order). ran plan.job (shorter_in plan.shorter) x y t) planned.order (row_is some)
+        ap₂ (λ (x y : Order). ran plan.job plan.shorter.now x y t) planned.order (row_is some)
         ∙ ⊎_elim
-        (λ one. ap (λ (job : Job). ran job (shorter_in plan.shorter) l l t) one.1 ∙ one_made one.0)
-        (λ more. ap (λ (job : Job). ran job (shorter_in plan.shorter) l l t) more.0 ∙ more_made more.1)
+        (λ one. ap (λ (job : Job). ran job plan.shorter.now l l t) one.1 ∙ one_made one.0)
+        (λ more. ap (λ (job : Job). ran job plan.shorter.now l l t) more.0 ∙ more_made more.1)
         planned.job

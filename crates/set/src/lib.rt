@@ -4,19 +4,20 @@
 ghost use Rattle.std.specs.Prelude.{◌≡◌, ◌&&◌, ◌-◌, ◌≤◌, length};
 ghost use Rattle.lists.specs.Lists.{all};
 ghost use Rattle.order.specs.Questions.{first_no, from_to, longest_word};
+ghost use Rattle.order.specs.Refusals.{asked};
 ghost use Rattle.order.specs.Answers.{order_in};
 ghost use Rattle.row.specs.Answered.{answered_as};
 ghost use Rattle.jobs.specs.Jobs.{search_tables};
 ghost use Rattle.set.specs.Calls.{falling, set_questions, set_call};
-ghost use Rattle.set.specs.Model.Plans.{AfterFirst, PlannedFor, SomeLengths};
+ghost use Rattle.set.specs.Model.Plans.{PlannedFor, SomeLengths};
 
 use calls::{ask, run};
 use events::Event;
-use jobs::{Job, Plan};
-use lengths::Shorter;
+use jobs::{Job, Plan, Tables};
 use order::questions::{EVERYTHING, HIGHEST_VERSION, LONGEST_WORD, ask_shape, from_to};
 use order::record::{OrderRecord, with_length};
-use row::{Answered, refuse};
+use order::refusal::Refusal;
+use row::Row;
 use search::choosing;
 
 // ---- the questions
@@ -25,56 +26,39 @@ use search::choosing;
 fn is_length_list(lengths: &[u64]) -> bool
     ensures { result ≡ (from_to 1 8 (length lengths.now) && falling lengths.now) }
 {
-    if !from_to(1, 8, lengths.len() as u64) {
-        return false;
-    }
-    let mut before = lengths[0];
-    let mut i = 1;
-    while i < lengths.len() {
-        let next = lengths[i];
-        if before <= next {
-            return false;
-        }
-        before = next;
-        i += 1;
-    }
-    true
+    from_to(1, 8, lengths.len() as u64) && lengths.is_sorted_by(|before, next| next < before)
 }
 
 // Question 5 of every length.
 fn all_long_enough(v: u64, lengths: &[u64]) -> bool
     ensures { result ≡ all (from_to v longest_word) lengths.now }
 {
-    let mut i = 0;
-    while i < lengths.len() {
-        if !from_to(v, LONGEST_WORD, lengths[i]) {
-            return false;
-        }
-        i += 1;
-    }
-    true
+    lengths.iter().all(|&bits| from_to(v, LONGEST_WORD, bits))
 }
 
-// All questions before 13: the number of the first that says no, or 0. A word of v bits passes question 5, so that the first part asks 2, 3 and 4 alone.
-fn ask_set(order: OrderRecord, lengths: &[u64], plain: usize, undetected: usize, size: usize) -> u64
-    ensures { result ≡ first_no (set_questions (order_in order) lengths.now plain undetected size) }
+// All questions before 13. A word of v bits passes question 5, so that the first part asks 2, 3 and 4 alone.
+fn ask_set(
+    order: OrderRecord,
+    lengths: &[u64],
+    plain: usize,
+    undetected: usize,
+    size: usize,
+) -> Result<(), Refusal>
+    ensures { asked result ≡ first_no (set_questions (order_in order) lengths.now plain undetected size) }
 {
-    let shape = ask_shape(
+    ask_shape(
         HIGHEST_VERSION,
         LONGEST_WORD,
         order.version,
         order.n,
         order.v,
         order.v,
-    );
-    if shape != 0 {
-        return shape;
-    }
+    )?;
     if !is_length_list(lengths) {
-        return 17;
+        return Err(Refusal::LengthList);
     }
     if !all_long_enough(order.v, lengths) {
-        return 5;
+        return Err(Refusal::WordLength);
     }
     let shortest = with_length(lengths[lengths.len() - 1], order);
     ask(choosing(shortest), plain, undetected, size)
@@ -82,26 +66,8 @@ fn ask_set(order: OrderRecord, lengths: &[u64], plain: usize, undetected: usize,
 
 // ---- the plan
 
-// The lengths after the first.
-fn after_first(lengths: &[u64]) -> Shorter
-    requires { SomeLengths lengths.now }
-    ensures { AfterFirst lengths.now result }
-{
-    let count = lengths.len() - 1;
-    let mut shorter = [0; 7];
-    let mut i = 0;
-    while i < count {
-        shorter[i] = lengths[i + 1];
-        i += 1;
-    }
-    Shorter {
-        count,
-        lengths: shorter,
-    }
-}
-
 // For one length the best is chosen as the search chooses it: narrowing by one length changes nothing.
-fn plan_for(order: OrderRecord, lengths: &[u64]) -> Plan
+fn plan_for<'a>(order: OrderRecord, lengths: &'a [u64]) -> Plan<'a>
     requires { SomeLengths lengths.now }
     ensures { PlannedFor (order_in order) lengths.now result }
 {
@@ -113,7 +79,7 @@ fn plan_for(order: OrderRecord, lengths: &[u64]) -> Plan
         order: longest,
         takes: EVERYTHING,
         bits: longest.bits,
-        shorter: after_first(lengths),
+        shorter: &lengths[1..],
         job: Job::ChooseFor,
     }
 }
@@ -131,13 +97,17 @@ pub fn search_set(
     plain: &mut [u64],
     undetected: &mut [u64],
     work: &mut [u64],
-) -> Answered
+) -> Result<Row, Refusal>
     ensures { (answered_as result, search_tables events.new paths.new plain.new undetected.new work.new) ≡ set_call (order_in order) lengths.now (search_tables events.old paths.old plain.old undetected.old work.old) }
 {
-    let why = ask_set(order, lengths, plain.len(), undetected.len(), work.len());
-    if why != 0 {
-        return refuse(why);
-    }
+    ask_set(order, lengths, plain.len(), undetected.len(), work.len())?;
     let plan = plan_for(order, lengths);
-    run(0, plan, events, paths, plain, undetected, work)
+    let tables = Tables {
+        events,
+        paths,
+        plain,
+        undetected,
+        work,
+    };
+    run(Ok(()), plan, tables)
 }

@@ -17,7 +17,7 @@ use Rattle.order.proofs.FirstNo.{first_no_none, first_no_yes, first_no_no, first
 use Rattle.order.proofs.Asked.{room-told, length-order_in}
 use Rattle.order.specs.declared.record.OrderRecord.{OrderRecord}
 use Rattle.text.specs.Calls.{text_size, laid_out, row_questions, refusal_questions, refusal_call}
-use Rattle.lines.specs.Model.Steps.{Put}
+use Rattle.lines.specs.Model.Steps.{Put, Counts}
 use Rattle.text.specs.Model.Steps.{RowAccepted, Laid}
 
 -- a text that was put into a cleared buffer
@@ -46,7 +46,7 @@ refusal_room buffer h = sym (first_no_yes _ [] (le-leb 4096 (length buffer) h) �
 
 -- ---- a row's questions
 
-pub row_accepted : (version n d plain undetected size r : ℕ) → r ≡ first_no (row_questions version n d plain undetected size) → r ≡ 0 → RowAccepted n d plain undetected size
+pub row_accepted : (version n d plain undetected size r : ℕ) → r ≡ first_no (row_questions version n d plain undetected size) → r ≡ 0 → RowAccepted n d plain undetected × (4096 ≤ size)
 unfolding row_questions text_size
 row_accepted version n d plain undetected size r e z =
     let two = first_yes _ _ tt (sym e ∙ z) in
@@ -55,11 +55,8 @@ row_accepted version n d plain undetected size r e z =
     let first = room-told (d - 1) plain _ seven.1 in
     let second = room-told (d - 1) undetected _ first.1 in
     let last = room-told 4096 size _ second.1 in
-    record {
-      at_most_4 = (range 2 4 n three.0).1;
-      counts = record { at_most_63 = omega (arith, (range 1 64 d seven.0).1); plain_counts_are = first.0; undetected_counts_are = second.0 };
-      bytes = last.0;
-    }
+    let counts : Counts (d - 1) plain undetected = record { at_most_63 = omega (arith, (range 1 64 d seven.0).1); plain_counts_are = first.0; undetected_counts_are = second.0 } in
+    (record { at_most_4 = (range 2 4 n three.0).1; counts = counts }, last.0)
 
 -- the questions of an order's struct are those of its order
 pub row_asked : (o : OrderRecord) (plain undetected size r : ℕ) → r ≡ first_no (row_questions o.version o.n o.d plain undetected size)

@@ -1,23 +1,21 @@
 -- What the calls that make text answer and leave, for every input. Their questions are 2, 3, 7 and 10 of document 01, as far as they take the values.
 -- Assumes nothing.
-use Rattle.std.specs.Prelude.{ℕ, ◌-◌, List, [], ◌∷◌, length}
+use Rattle.std.specs.Prelude.{ℕ, ◌-◌, List, [], ◌∷◌, length, Result, Ok, Err}
 use Rattle.lists.specs.Lists.{padded}
 use Rattle.order.specs.Questions.{Question, first_no, highest_version, link_kind, generator_count, threshold, room}
 use Rattle.order.specs.Order.{Order}
 use Rattle.order.specs.Answer.{Answer, accepted, refused, unless_refused}
 use Rattle.row.specs.declared.Row.{Row}
 use Rattle.text.specs.Text.{refusal_text, answer_text}
-use Rattle.text.specs.declared.Written.{Written}
-use Rattle.text.specs.declared.Written.TheVariants as W
 
 -- the bytes that a text buffer must have; no text has more
 unfoldable pub text_size : ℕ
 text_size = 4096
 
--- what the call answers: the text's length
-abbrev pub written_as : Written → Answer ℕ
-written_as (W.Bytes n) = accepted n
-written_as (W.Refused k) = refused k
+-- what a host hands back: a row, or any number as a refusal's
+abbrev pub handed_back : Result Row ℕ → Answer Row
+handed_back (Ok r) = accepted r
+handed_back (Err k) = refused k
 
 -- the text with zeros after it
 unfoldable pub laid_out : List ℕ → List ℕ → Answer ℕ × List ℕ

@@ -3,62 +3,60 @@
 ghost use Rattle.std.specs.Prelude.{◌≡◌, ◌≤◌, length};
 ghost use Rattle.order.specs.Questions.{first_no};
 ghost use Rattle.text.specs.Text.{row_text, refusal_text};
-ghost use Rattle.text.specs.Calls.{written_as, row_questions, row_call, refusal_call};
+ghost use Rattle.text.specs.Calls.{handed_back, row_questions, row_call, refusal_call};
 ghost use Rattle.order.specs.Answer.{accepted};
+ghost use Rattle.order.specs.Refusals.{asked, answered_by};
 ghost use Rattle.order.specs.Answers.{order_in};
-ghost use Rattle.row.specs.Answered.{answered_as};
 ghost use Rattle.lines.specs.Model.Steps.{Put};
 ghost use Rattle.text.specs.Model.Steps.{RowAccepted, Laid};
 
 use lines::{put_counts, put_line, put_order, put_polynomial};
-use lists::clear_bytes;
+use lists::clear;
 use order::questions::{HIGHEST_VERSION, counted_weights, from_to};
 use order::record::OrderRecord;
-use row::{Answered, Row};
+use order::refusal::Refusal;
+use row::Row;
 
-// How many bytes the text has, or the number of the question that says no.
-#[derive(Clone, Copy)]
-pub enum Written {
-    Bytes(u64),
-    Refused(u64),
-}
-
-// Questions 2, 3, 7 and 10: the number of the first that says no, or 0.
-fn ask_row(o: OrderRecord, plain: usize, undetected: usize, size: usize) -> u64
-    ensures { result ≡ first_no (row_questions o.version o.n o.d plain undetected size) }
+// Questions 2, 3, 7 and 10.
+fn ask_row(o: OrderRecord, plain: usize, undetected: usize, size: usize) -> Result<(), Refusal>
+    ensures { asked result ≡ first_no (row_questions o.version o.n o.d plain undetected size) }
 {
     if !from_to(1, HIGHEST_VERSION, o.version) {
-        return 2;
+        return Err(Refusal::LinkKind);
     }
     if !from_to(2, 4, o.n) {
-        return 3;
+        return Err(Refusal::GeneratorCount);
     }
     if !from_to(1, 64, o.d) {
-        return 7;
+        return Err(Refusal::Threshold);
     }
     let entries = counted_weights(o.d) as usize;
-    if plain < entries {
-        return 10;
+    if plain < entries || undetected < entries || size < 4096 {
+        return Err(Refusal::Room);
     }
-    if undetected < entries {
-        return 10;
-    }
-    if size < 4096 {
-        return 10;
-    }
-    0
+    Ok(())
 }
 
-fn put_row(buffer: &mut [u8], o: OrderRecord, row: Row, plain: &[u64], undetected: &[u64]) -> usize
-    requires { RowAccepted o.n o.d (length plain.now) (length undetected.now) (length buffer.old) }
-    ensures { Put 4096 buffer.old 0 (row_text (order_in o) row plain.now undetected.now) buffer.new result }
+// What the text of a row is made of. The order's numbers and the lengths of the counts are accepted, and not asked again.
+#[derive(Clone, Copy)]
+pub struct RowText<'a> {
+    pub order: OrderRecord,
+    pub row: Row,
+    pub plain: &'a [u64],
+    pub undetected: &'a [u64],
+    pub ghost accepted: { RowAccepted order.n order.d (length plain.now) (length undetected.now) },
+}
+
+fn put_row(buffer: &mut [u8], text: RowText<'_>) -> usize
+    requires { 4096 ≤ length buffer.old }
+    ensures { Put 4096 buffer.old 0 (row_text (order_in text.entry.order) text.entry.row text.entry.plain.now text.entry.undetected.now) buffer.new result }
 {
-    let to_events = put_order(buffer, 0, o);
-    let to_paths = put_line(buffer, to_events, b"EVENTS", &[row.events]);
-    let to_counts = put_line(buffer, to_paths, b"PATHS", &[row.paths]);
-    let entries = counted_weights(o.d) as usize;
-    let to_polynomial = put_counts(buffer, to_counts, entries, plain, undetected);
-    put_polynomial(buffer, to_polynomial, row.polynomial, row.shared)
+    let to_events = put_order(buffer, 0, text.order);
+    let to_paths = put_line(buffer, to_events, b"EVENTS", &[text.row.events]);
+    let to_counts = put_line(buffer, to_paths, b"PATHS", &[text.row.paths]);
+    let entries = counted_weights(text.order.d) as usize;
+    let to_polynomial = put_counts(buffer, to_counts, entries, text.plain, text.undetected);
+    put_polynomial(buffer, to_polynomial, text.row.polynomial, text.row.shared)
 }
 
 fn put_refusal(buffer: &mut [u8], number: u64) -> usize
@@ -68,19 +66,13 @@ fn put_refusal(buffer: &mut [u8], number: u64) -> usize
     put_line(buffer, 0, b"NO", &[number])
 }
 
-// The row of an accepted order, and zeros after it: where it ends. Nothing is asked.
-pub fn lay_row(
-    o: OrderRecord,
-    row: Row,
-    plain: &[u64],
-    undetected: &[u64],
-    buffer: &mut [u8],
-) -> usize
-    requires { RowAccepted o.n o.d (length plain.now) (length undetected.now) (length buffer.old) }
-    ensures { Laid (row_text (order_in o) row plain.now undetected.now) buffer.old buffer.new result }
+// A row, and zeros after it: where it ends. Nothing is asked.
+pub fn lay_row(text: RowText<'_>, buffer: &mut [u8]) -> usize
+    requires { 4096 ≤ length buffer.old }
+    ensures { Laid (row_text (order_in text.entry.order) text.entry.row text.entry.plain.now text.entry.undetected.now) buffer.old buffer.new result }
 {
-    clear_bytes(buffer);
-    put_row(buffer, o, row, plain, undetected)
+    clear(buffer, 0);
+    put_row(buffer, text)
 }
 
 // A refusal, and zeros after it: where it ends.
@@ -88,7 +80,7 @@ pub fn lay_refusal(number: u64, buffer: &mut [u8]) -> usize
     requires { 4096 ≤ length buffer.old }
     ensures { Laid (refusal_text number) buffer.old buffer.new result }
 {
-    clear_bytes(buffer);
+    clear(buffer, 0);
     put_refusal(buffer, number)
 }
 
@@ -98,40 +90,43 @@ fn write_numbers(
     plain: &[u64],
     undetected: &[u64],
     buffer: &mut [u8],
-) -> Written
-    ensures { (written_as result, buffer.new) ≡ row_call (order_in o) (accepted row) plain.now undetected.now buffer.old }
+) -> Result<u64, Refusal>
+    ensures { (answered_by (λ n. n) result, buffer.new) ≡ row_call (order_in o) (accepted row) plain.now undetected.now buffer.old }
 {
-    let refusal = ask_row(o, plain.len(), undetected.len(), buffer.len());
-    if refusal != 0 {
-        return Written::Refused(refusal);
-    }
-    let end = lay_row(o, row, plain, undetected, buffer);
-    Written::Bytes(end as u64)
+    ask_row(o, plain.len(), undetected.len(), buffer.len())?;
+    let text = RowText {
+        order: o,
+        row,
+        plain,
+        undetected,
+    };
+    let end = lay_row(text, buffer);
+    Ok(end as u64)
 }
 
-// A refusal, and zeros after it.
-pub fn write_refusal(number: u64, buffer: &mut [u8]) -> Written
-    ensures { (written_as result, buffer.new) ≡ refusal_call number buffer.old }
+// A refusal, and zeros after it: how many bytes the text has.
+pub fn write_refusal(number: u64, buffer: &mut [u8]) -> Result<u64, Refusal>
+    ensures { (answered_by (λ n. n) result, buffer.new) ≡ refusal_call number buffer.old }
 {
     if buffer.len() < 4096 {
-        return Written::Refused(10);
+        return Err(Refusal::Room);
     }
     let end = lay_refusal(number, buffer);
-    Written::Bytes(end as u64)
+    Ok(end as u64)
 }
 
-// What a call answered for an order: the row, or the refusal, and zeros after it.
+// What a call answered for an order, and zeros after it: the row, or the number of the refusal, which a host hands back and may be any number.
 pub fn write_row(
     o: OrderRecord,
-    a: Answered,
+    a: Result<Row, u64>,
     plain: &[u64],
     undetected: &[u64],
     buffer: &mut [u8],
-) -> Written
-    ensures { (written_as result, buffer.new) ≡ row_call (order_in o) (answered_as a) plain.now undetected.now buffer.old }
+) -> Result<u64, Refusal>
+    ensures { (answered_by (λ n. n) result, buffer.new) ≡ row_call (order_in o) (handed_back a) plain.now undetected.now buffer.old }
 {
     match a {
-        Answered::Row(row) => write_numbers(o, row, plain, undetected, buffer),
-        Answered::Refused(number) => write_refusal(number, buffer),
+        Ok(row) => write_numbers(o, row, plain, undetected, buffer),
+        Err(number) => write_refusal(number, buffer),
     }
 }

@@ -8,7 +8,7 @@ use mathlib.Core.Path.{◌≡◌, sym, ap, ap₂, ◌∙◌, fun_ext}
 use mathlib.Core.Bool.{Bool}
 use mathlib.Core.List.{List, [], ◌∷◌, ◌++◌, map, map-append, append_assoc}
 use lib.Dec.{eqb}
-use lib.ListN.{length, get_or, take, drop, set, length-append, length-drop, take-append-drop}
+use lib.ListN.{length, get_or, take, drop, set, length-append, take-append-drop}
 use lib.Seq.{length-take-le, drop-cons, append_snoc, set_at}
 use Rattle.lists.specs.Lists.{up_from, count}
 use Rattle.lists.proofs.Filters.{between_le}
@@ -44,13 +44,14 @@ module _ (bits entries m p : ℕ) (table plain : List ℕ) (readable : Readable 
       (readable.numbers (2 * k)) (readable.words k)))
 
   -- the limit is how many there are, so it is never passed
-  pub counted-weight : (rows : List ℕ) (j at r : ℕ) → rows ≡ check_table bits m p → at ≡ paths_to plain j
-      → r ≡ up_to (get_or plain j 0) (even_between rows m table at (at + get_or plain j 0)) → r ≡ divided_of m p table plain j
+  pub counted-weight : (rows : List ℕ) (n j at r : ℕ) → (rows ≡ check_table bits m p) × (n ≡ m) → at ≡ paths_to plain j
+      → r ≡ up_to (get_or plain j 0) (even_between rows n table at (at + get_or plain j 0)) → r ≡ divided_of m p table plain j
   unfolding divided_of divided_between
-  counted-weight rows j at r er ea e =
+  counted-weight rows n j at r made ea e =
       let all : ℕ = get_or plain j 0 in
-      let same : even_between rows m table at (at + all) ≡ divided_of m p table plain j =
-      ap₂ (λ (l : List ℕ) (x : ℕ). even_between l m table x (x + all)) er ea ∙ even_divided (paths_to plain j) (paths_to plain j + all) in
+      let same : even_between rows n table at (at + all) ≡ divided_of m p table plain j =
+      ap₂ (λ (l : List ℕ) (k : ℕ). even_between l k table at (at + all)) made.0 made.1
+      ∙ ap (λ (x : ℕ). even_between (check_table bits m p) m table x (x + all)) ea ∙ even_divided (paths_to plain j) (paths_to plain j + all) in
       let few = between_le (λ k. eqb (remainder m p (word_at table k)) 0) (paths_to plain j) (paths_to plain j + all) in
       e ∙ ap (up_to all) same ∙ sym (up_to_within all (divided_of m p table plain j) (omega arith))
 
@@ -78,9 +79,6 @@ module _ (m p : ℕ) (table plain : List ℕ) where
     as_front : counted_from m p table plain first j l ≡ front ++ drop j l
     unfolding counted_from front
     as_front = sym (append_assoc (take first l) (map (divided_of m p table plain) (up_from first (j - first))) (drop j l))
-
-    pub length-counted : j ≤ length l → length (counted_from m p table plain first j l) ≡ length l
-    length-counted h = let e = length_front h in omega (arith, ap length as_front, length-append front (drop j l), length-drop j l)
 
     pub counted_next : (x : ℕ) → j < length l → x ≡ divided_of m p table plain j
         → set (counted_from m p table plain first j l) j x ≡ counted_from m p table plain first (j + 1) l

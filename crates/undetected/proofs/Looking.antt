@@ -1,6 +1,6 @@
 -- The loop that looks for the first weight: p divides no word of the entries before entry i.
 -- Assumes nothing.
-use Prim.Native.Nat.{ℕ, zero, suc, ◌+◌, ◌-◌, ◌≤◌, ◌<◌}
+use Prim.Native.Nat.{ℕ, zero, suc, ◌+◌, ◌≤◌, ◌<◌}
 use native.Mathlib.Decide.{ℕ_discrete, dec_lt}
 use native.Mathlib.Omega.{arith}
 use mathlib.Core.Path.{◌≡◌, refl, sym, ap, ◌∙◌}
@@ -42,10 +42,10 @@ up_to_zero : (limit c : ℕ) → up_to limit c ≡ 0 → c ≡ 0
 up_to_zero limit c e = elim (dec_lt limit c) [ yes l ↦ absurd (omega (arith, up_to_past limit c l)) | no n ↦ omega (arith, up_to_within limit c (omega arith)) ]
 
 module _ (bits entries m p : ℕ) (table plain : List ℕ) (readable : Readable bits entries table plain) (divisor : Divisor m p)
-    (rows : List ℕ) (from i r : ℕ) (checks : rows ≡ check_table bits m p) (placed : from ≡ paths_to plain i)
-    (counted : r ≡ up_to 0 (even_between rows m table from (from + get_or plain i 0))) where
-  all-counted : up_to (get_or plain i 0) (even_between rows m table from (from + get_or plain i 0)) ≡ divided_of m p table plain i
-  all-counted = counted-weight bits entries m p table plain readable divisor rows i from _ checks placed refl
+    (rows : List ℕ) (count from i r : ℕ) (checks : (rows ≡ check_table bits m p) × (count ≡ m)) (placed : from ≡ paths_to plain i)
+    (counted : r ≡ up_to 0 (even_between rows count table from (from + get_or plain i 0))) where
+  all-counted : up_to (get_or plain i 0) (even_between rows count table from (from + get_or plain i 0)) ≡ divided_of m p table plain i
+  all-counted = counted-weight bits entries m p table plain readable divisor rows count i from _ checks placed refl
 
   none_divided : r ≡ 0 → divided_of m p table plain i ≡ 0
   none_divided z =
@@ -56,38 +56,36 @@ module _ (bits entries m p : ℕ) (table plain : List ℕ) (readable : Readable 
 
 -- ---- the loop
 
-module _ (m p : ℕ) (table plain : List ℕ) (entries : ℕ) where
+module _ (m p : ℕ) (table plain : List ℕ) where
   pub record Looking (from i : ℕ) : Type 0 where
-    pub within : i ≤ entries
     pub placed : from ≡ paths_to plain i
     pub none_yet : (k : ℕ) → k < i → divided_of m p table plain k ≡ 0
 
   pub looking_begin : Looking 0 0
-  looking_begin = record { within = omega arith; placed = sum_none plain; none_yet = λ k l. absurd (omega arith) }
+  looking_begin = record { placed = sum_none plain; none_yet = λ k l. absurd (omega arith) }
 
   -- the words of entry i, up to the first that passes every check
-  module _ {bits from i r : ℕ} {rows : List ℕ} (readable : Readable bits entries table plain) (divisor : Divisor m p) (checks : rows ≡ check_table bits m p)
-      (counted : r ≡ up_to 0 (even_between rows m table from (from + get_or plain i 0))) (looking : Looking from i) (more : i < entries) where
+  module _ {bits entries count from i r : ℕ} {rows : List ℕ} (readable : Readable bits entries table plain) (divisor : Divisor m p)
+      (checks : (rows ≡ check_table bits m p) × (count ≡ m)) (counted : r ≡ up_to 0 (even_between rows count table from (from + get_or plain i 0)))
+      (looking : Looking from i) where
     pub looking_on : r ≡ 0 → Looking (from + get_or plain i 0) (i + 1)
     looking_on z = record {
-      within = omega arith;
       placed = omega (arith, before_next plain i, looking.placed);
       none_yet = λ k h. elim (dec_lt k i) [
         | yes before ↦ looking.none_yet k before
         | no n ↦
             let same : k ≡ i = omega arith in
-            ap (divided_of m p table plain) same ∙ none_divided bits entries m p table plain readable divisor rows from i r checks looking.placed counted z
+            ap (divided_of m p table plain) same ∙ none_divided bits entries m p table plain readable divisor rows count from i r checks looking.placed counted z
       ];
     }
 
-    pub looking_found : (r ≡ 0 → ⊥) → i + 1 ≡ first_above0 1 (divided_counts m table plain entries p)
+    pub looking_found : i < entries → (r ≡ 0 → ⊥) → i + 1 ≡ first_above0 1 (divided_counts m table plain entries p)
     unfolding divided_counts
-    looking_found n =
-        let some = some_divided bits entries m p table plain readable divisor rows from i r checks looking.placed counted n in
+    looking_found more n =
+        let some = some_divided bits entries m p table plain readable divisor rows count from i r checks looking.placed counted n in
         omega (arith, first_found (divided_of m p table plain) 1 0 entries i (omega arith) (omega arith) (λ k _ l. looking.none_yet k l) some)
 
-  pub looking_end : {from i : ℕ} → Looking from i → entries ≤ i → entries + 1 ≡ first_above0 1 (divided_counts m table plain entries p)
+  pub looking_end : (entries : ℕ) {from i : ℕ} → Looking from i → i ≡ entries → entries + 1 ≡ first_above0 1 (divided_counts m table plain entries p)
   unfolding divided_counts
-  looking_end looking h =
-      let all = looking.within in
+  looking_end entries looking h =
       omega (arith, first_none (divided_of m p table plain) 1 0 entries (λ k _ l. looking.none_yet k (omega arith)))

@@ -3,79 +3,78 @@
 // What is `pub` here is for the crates above; docs/DECISIONS.md lists it as internal.
 ghost use Rattle.std.specs.Prelude.{◌≡◌};
 ghost use Rattle.undetected.specs.FirstUndetected.{first_above0};
-ghost use Rattle.undetected.specs.Model.Steps.{even_between, up_to, divided_counts, counted_from, ToCountBetween, ToCountFrom, ToFindFirst};
+ghost use Rattle.undetected.specs.Model.Steps.{even_between, up_to, divided_counts, counted_from, Readable, ToCountBetween, ToCountFrom, ToFindFirst};
 
-use parity::{all_even, check_table};
+use parity::Checks;
+use poly::word::Word;
+
+// The words that were listed, of so many bits, and how many there are of each weight; so many weights are looked at.
+#[derive(Clone, Copy)]
+pub struct Listing<'a> {
+    pub table: &'a [u64],
+    pub plain: &'a [u64],
+    pub bits: u64,
+    pub entries: usize,
+    pub ghost readable: { Readable bits entries table.now plain.now },
+}
 
 // How many of the words from place `from` to before place `to` pass every check. Counting stops at one more than the limit.
-pub fn count_up_to(
-    table: &[u64],
-    from: usize,
-    to: usize,
-    rows: &[u64; 24],
-    m: u64,
-    limit: u64,
-) -> u64
-    requires { ToCountBetween table.now from to m }
-    ensures { result ≡ up_to limit (even_between rows.now m table.now from to) }
+pub fn count_up_to(table: &[u64], from: usize, to: usize, checks: &Checks, limit: u64) -> u64
+    requires { ToCountBetween table.now from to }
+    ensures { result ≡ up_to limit (even_between checks.now.rows checks.now.count table.now from to) }
 {
     let mut found = 0;
-    let mut k = from;
-    while k < to {
+    for k in from..to {
         let at = 2 * k;
-        if all_even(rows, m, table[at], table[at + 1]) {
+        let word = Word {
+            low: table[at],
+            high: table[at + 1],
+        };
+        if checks.all_even(word) {
             found += 1;
             if limit < found {
                 return found;
             }
         }
-        k += 1;
     }
     found
 }
 
 // The undetected counts of p from entry `first` of the lists on; entry j is of weight j + 1. The words of entry `first` begin at place `start`.
 pub fn count_from(
-    table: &[u64],
-    plain: &[u64],
+    listing: Listing<'_>,
     undetected: &mut [u64],
-    bits: u64,
     m: u64,
     p: u64,
     first: usize,
-    entries: usize,
     start: usize,
 )
-    requires { ToCountFrom bits entries m p first start table.now plain.now undetected.old }
-    ensures { undetected.new ≡ counted_from m p table.now plain.now first entries undetected.old }
+    requires { ToCountFrom listing.entries m p first start listing.plain.now undetected.old }
+    ensures { undetected.new ≡ counted_from m p listing.entry.table.now listing.entry.plain.now first listing.entry.entries undetected.old }
 {
-    let rows = check_table(bits, m, p);
+    let checks = Checks::new(listing.bits, m, p);
     let mut at = start;
-    let mut j = first;
-    while j < entries {
-        let all = plain[j];
+    for j in first..listing.entries {
+        let all = listing.plain[j];
         let next = at + all as usize;
-        undetected[j] = count_up_to(table, at, next, &rows, m, all);
+        undetected[j] = count_up_to(listing.table, at, next, &checks, all);
         at = next;
-        j += 1;
     }
 }
 
 // The weight of the first listed word that p divides, one more than the last weight where it divides none. Entry i is of weight i + 1.
-pub fn first_weight(table: &[u64], plain: &[u64], bits: u64, m: u64, p: u64, entries: usize) -> u64
-    requires { ToFindFirst bits entries m p table.now plain.now }
-    ensures { result ≡ first_above0 1 (divided_counts m table.now plain.now entries p) }
+pub fn first_weight(listing: Listing<'_>, m: u64, p: u64) -> u64
+    requires { ToFindFirst listing.entries m p }
+    ensures { result ≡ first_above0 1 (divided_counts m listing.entry.table.now listing.entry.plain.now listing.entry.entries p) }
 {
-    let rows = check_table(bits, m, p);
+    let checks = Checks::new(listing.bits, m, p);
     let mut from = 0;
-    let mut i = 0;
-    while i < entries {
-        let to = from + plain[i] as usize;
-        if count_up_to(table, from, to, &rows, m, 0) != 0 {
+    for i in 0..listing.entries {
+        let to = from + listing.plain[i] as usize;
+        if count_up_to(listing.table, from, to, &checks, 0) != 0 {
             return i as u64 + 1;
         }
         from = to;
-        i += 1;
     }
-    entries as u64 + 1
+    listing.entries as u64 + 1
 }

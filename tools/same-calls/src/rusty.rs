@@ -54,6 +54,10 @@ fn read_struct(reader: &mut Reader, laid_out: bool) -> Result<Struct, String> {
                 field.within()?;
             }
             field.take(&["pub"]);
+            // A ghost field is a fact, and stands in no memory.
+            if field.take(&["ghost"]) {
+                continue;
+            }
             let name = field.name()?;
             field.expect(":")?;
             let mut kind = Vec::new();

@@ -1,11 +1,13 @@
 -- No room, or the first length that fits.
-use borrow.Author.Rules.{rules}
-use native.Mathlib.Omega.{arith}
-use Rattle.bounds.proofs.Cases.{beginning_full, beginning-found}
+use Rattle.std.proofs.Common.{arith}
+use Rattle.std.proofs.lemmas.Bool.Decides.{nat_tests}
+use Rattle.bounds.specs.Model.Tables.{beginning}
 use Rattle.bounds.proofs.begin.Goals as goal
 
 pub returns-then-room-at : goal.returns-then-room-at
-returns-then-room-at c = beginning_full _ _ _ _ c.if-room-at.true
+unfolding beginning
+returns-then-room-at c = grind (arith, nat_tests)
 
 pub returns : goal.returns
-returns c = beginning-found _ _ _ _ _ (omega arith) c.next_length.ensures
+unfolding beginning
+returns c = grind (arith, nat_tests)

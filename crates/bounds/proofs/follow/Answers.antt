@@ -1,14 +1,17 @@
 -- No room, the next event of the same length, or the next length that fits.
-use borrow.Author.Rules.{rules}
-use native.Mathlib.Omega.{arith}
-use Rattle.bounds.proofs.Cases.{following_full, following-next, following_longer}
+use Rattle.std.proofs.Common.{arith}
+use Rattle.std.proofs.lemmas.Bool.Decides.{nat_tests}
+use Rattle.bounds.specs.Model.Tables.{following}
 use Rattle.bounds.proofs.follow.Goals as goal
 
 pub returns-then-room-at : goal.returns-then-room-at
-returns-then-room-at c = following_full _ _ _ _ _ _ c.if-room-at.true
+unfolding following
+returns-then-room-at c = grind (arith, nat_tests)
 
 pub returns-then-k-work : goal.returns-then-k-work
-returns-then-k-work c = following-next _ _ _ _ _ _ (omega arith) c.if-k-work.true
+unfolding following
+returns-then-k-work c = grind (arith, nat_tests)
 
 pub returns : goal.returns
-returns c = following_longer _ _ _ _ _ _ _ (omega arith) (omega arith) c.next_length.ensures
+unfolding following
+returns c = grind (arith, nat_tests)

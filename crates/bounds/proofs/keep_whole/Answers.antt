@@ -1,5 +1,4 @@
 -- The least weight of all steps is stored.
-use borrow.Author.Rules.{rules}
 use mathlib.Core.Path.{refl}
 use Rattle.bounds.specs.Model.Tables.{whole_kept}
 use Rattle.bounds.proofs.keep_whole.Goals as goal

@@ -4,6 +4,8 @@ use Rattle.std.specs.Prelude.{ℕ, zero, suc, ◌+◌, ◌-◌, ◌^◌, ◌≤�
 use Rattle.events.specs.declared.Event.{Event}
 use Rattle.events.specs.Events.{no_event}
 use Rattle.bounds.specs.declared.Chain.{Chain}
+use Rattle.bounds.specs.declared.Joining.{Joining}
+use Rattle.bounds.specs.declared.Joining.TheVariants.{Skipped, Complete, Continued}
 use Rattle.code.specs.Model.Steps.{most_steps}
 use Rattle.bounds.specs.Model.Places.{length_count, state_count, too_heavy, first_place, state_end_place, least_place, length_end_place, start_place, fill_place, bits_place, end_place, light_place, whole_place, area_size}
 
@@ -123,22 +125,13 @@ following work at room begun l k =
 
 -- What an event comes to: it is passed over, it completes a chain, or it is joined and more follow. A chain is complete too where its weight is used up and
 -- only zero loops can follow; and no event follows that weighs more than is left.
-abbrev pub skipped : ℕ
-skipped = 0
-
-abbrev pub complete : ℕ
-complete = 1
-
-abbrev pub continued : ℕ
-continued = 2
-
-unfoldable pub decided : List ℕ → Chain → Event → ℕ
+unfoldable pub decided : List ℕ → Chain → Event → Joining
 decided work begun e =
-    let last : ℕ = cond (eqb e.weight begun.budget) complete skipped in
-    let more : ℕ = cond (leb (e.weight + fill_at work (begun.steps - e.length)) begun.budget) continued skipped in
+    let last : Joining = cond (eqb e.weight begun.budget) Complete Skipped in
+    let more : Joining = cond (leb (e.weight + fill_at work (begun.steps - e.length)) begun.budget) Continued Skipped in
     let fits = leb e.length begun.steps && leb e.weight begun.budget in
     let ends = eqb e.length begun.steps || ltb (begun.budget - e.weight) (light_at work) in
-    cond fits (cond ends last more) skipped
+    cond fits (cond ends last more) Skipped
 
 -- ---- what the tables promise
 

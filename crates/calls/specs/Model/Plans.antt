@@ -1,16 +1,15 @@
 -- The call that a plan tells, and what is asked of it (a model).
 -- Assumes nothing.
-use Rattle.std.specs.Prelude.{ℕ, ◌≤◌, ◌≡◌, Bool, true}
+use Rattle.std.specs.Prelude.{◌≤◌, ◌≡◌, Bool, true}
 use Rattle.order.specs.Questions.{highest_version, longest_word}
 use Rattle.order.specs.Answers.{order_in}
-use Rattle.lengths.specs.Shorter.{shorter_in}
 use Rattle.jobs.specs.declared.Job.{Job}
 use Rattle.jobs.specs.declared.Job.TheVariants as J
 use Rattle.jobs.specs.declared.Plan.{Plan}
 use Rattle.calls.specs.Calls.{Call}
 
 abbrev pub call_in : Plan → Call
-call_in p = record { order = order_in p.order; takes = p.takes; N = p.bits; shorter = shorter_in p.shorter; job = p.job }
+call_in p = record { order = order_in p.order; takes = p.takes; N = p.bits; shorter = p.shorter.now; job = p.job }
 
 -- a job that chooses or counts takes the degree; for a set of lengths more is asked than here (`set`)
 abbrev pub DegreeFor : Job → Bool → Type 0

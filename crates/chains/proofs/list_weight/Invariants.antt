@@ -7,6 +7,3 @@ pub mod Turns
 
 abbrev pub invariant-loop-i : goal.invariant-loop-i
 invariant-loop-i l = (ask : ToListWeight l.events l.initial.work l.initial.paths l.at l.states l.first l.w) → Stands ask l.i l.next l.work l.paths
-
-abbrev pub decreases-loop-i : goal.decreases-loop-i
-decreases-loop-i l = l.states - l.i

@@ -1,5 +1,4 @@
 -- No step is joined yet.
-use borrow.Author.Rules.{rules}
 use mathlib.Core.Path.{refl}
 use Rattle.chains.specs.Model.Chaining.{unbegun}
 use Rattle.chains.proofs.unbegun.Goals as goal

@@ -2,6 +2,7 @@
 -- Assumes nothing.
 use Rattle.std.specs.Prelude.{ℕ, zero, suc, ◌+◌, ◌-◌, ◌*◌, ◌/◌, ◌%◌, ◌^◌, ◌≤◌, ◌<◌, List, [], ◌++◌, map, cond, T, ltb, length, get_or, set, ◌≡◌}
 use Rattle.lists.specs.Lists.{up_from}
+use Rattle.poly.specs.Word.{number}
 use Rattle.events.specs.declared.Event.{Event}
 use Rattle.events.specs.Events.{ErrorEvent, no_event}
 use Rattle.paths.specs.Paths.{path_room}
@@ -17,10 +18,6 @@ use Rattle.bounds.specs.Model.Tables.{first_of, start_at, fill_at, bits_at, end_
 -- a chain weighs at most
 abbrev pub most_weight : ℕ
 most_weight = 64
-
--- the inputs of a chain begun, as one number
-abbrev pub inputs_of : Chain → ℕ
-inputs_of begun = begun.high * 2 ^ 64 + begun.low
 
 -- the input of an event
 abbrev pub word_of : Event → ℕ
@@ -40,29 +37,28 @@ at_hand table work = map (λ k. error_event (get_or table k no_event)) (up_from 
 -- event e joined to a chain begun
 unfoldable pub extended : ℕ → Chain → Event → Chain
 extended N begun e =
-    let c : ℕ = inputs_of begun + word_of e * 2 ^ (N - begun.steps) in
+    let c : ℕ = number begun.inputs + word_of e * 2 ^ (N - begun.steps) in
     record {
       first = first_or begun.first e.length;
       steps = begun.steps - e.length;
       budget = begun.budget - e.weight;
-      low = c % 2 ^ 64;
-      high = c / 2 ^ 64;
+      inputs = record { low = c % 2 ^ 64; high = c / 2 ^ 64 };
     }
 
 -- the words of the chains that begin so
 unfoldable pub found : List Event → List ℕ → Chain → List ℕ
 found table work begun =
-    joined begun.steps (at_hand table work) (bits_at work) begun.steps (inputs_of begun) begun.first begun.budget
+    joined begun.steps (at_hand table work) (bits_at work) begun.steps (number begun.inputs) begun.first begun.budget
 
 -- those among them that go on with event e
 unfoldable pub found_by : List Event → List ℕ → Chain → Event → List ℕ
 found_by table work begun e =
-    joining (bits_at work) (joined (begun.steps - 1) (at_hand table work) (bits_at work)) begun.steps (inputs_of begun)
+    joining (bits_at work) (joined (begun.steps - 1) (at_hand table work) (bits_at work)) begun.steps (number begun.inputs)
     begun.first begun.budget (error_event e)
 
 -- a chain that is not begun: all its steps are left. `first` is 0, or 1 where a chain is not turned: then one word is emitted, begun 0 steps later
 unfoldable pub unbegun : ℕ → ℕ → ℕ → Chain
-unbegun N first w = record { first = first; steps = N; budget = w; low = 0; high = 0 }
+unbegun N first w = record { first = first; steps = N; budget = w; inputs = record { low = 0; high = 0 } }
 
 -- ---- state by state
 
@@ -169,7 +165,7 @@ pub record Unfinished (N : ℕ) (begun : Chain) : Type 0 where
   pub within : begun.steps ≤ N
   pub short_to_turn : ShortToTurn begun.first N
   pub light : begun.budget ≤ most_weight
-  pub word_small : inputs_of begun < 2 ^ (N - begun.steps)
+  pub word_small : number begun.inputs < 2 ^ (N - begun.steps)
 
 -- a place of a path table, or the one after its last
 abbrev pub Near : List ℕ → ℕ → Type 0
@@ -190,7 +186,7 @@ pub record ToEmit (work paths : List ℕ) (at : ℕ) (whole : Chain) : Type 0 wh
   pub small : Small work
   pub some_bits : 1 ≤ bits_at work
   pub short_to_turn : ShortToTurn whole.first (bits_at work)
-  pub word_small : inputs_of whole < 2 ^ bits_at work
+  pub word_small : number whole.inputs < 2 ^ bits_at work
   pub near : Near paths at
 
 -- by `join`

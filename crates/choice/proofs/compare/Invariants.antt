@@ -3,31 +3,21 @@
 use mathlib.Core.Path.{◌≡◌}
 use mathlib.Core.Bool.{Bool}
 use mathlib.Core.List.{List}
-use Prim.Native.Nat.{ℕ, ◌-◌, ◌≤◌}
+use Prim.Native.Nat.{ℕ}
 use Rattle.paths.specs.Part.{paths_to}
 use Rattle.undetected.specs.Model.Steps.{divided_counts}
 use Rattle.choice.proofs.Weighed.{Agree}
 use Rattle.choice.proofs.Comparing.{Met}
 use Rattle.choice.proofs.compare.Given as goal
 
-pub record Level (m entries : ℕ) (table plain undetected₀ undetected : List ℕ) (alive₀ alive : List Bool) (k₀ k p at j : ℕ) : Type 0 where
+pub record Level (m entries : ℕ) (table plain undetected₀ undetected : List ℕ) (alive₀ alive : List Bool) (p at j : ℕ) : Type 0 where
   pub same-list : undetected ≡ undetected₀
   pub same_flags : alive ≡ alive₀
-  pub same-candidate : k ≡ k₀
-  pub within : j ≤ entries
   pub placed : at ≡ paths_to plain j
   pub agree : Agree j (divided_counts m table plain entries p) undetected
 
 abbrev pub invariant-loop-j : goal.invariant-loop-j
-invariant-loop-j l =
-    Level l.m l.entries l.table l.plain l.initial.undetected l.undetected l.initial.alive l.alive l.initial.k l.k l.p l.at l.j
-
-abbrev pub decreases-loop-j : goal.decreases-loop-j
-decreases-loop-j l = l.entries - l.j
+invariant-loop-j l = Level l.m l.listing.entries l.listing.table.now l.listing.plain.now l.initial.undetected l.undetected l.initial.alive l.alive l.p l.at l.j
 
 abbrev pub invariant-candidates : goal.invariant-candidates
-invariant-candidates l =
-    Met l.m l.entries l.n l.initial.alive l.first l.table l.plain l.initial.undetected l.undetected l.alive l.k
-
-abbrev pub decreases-candidates : goal.decreases-candidates
-decreases-candidates l = l.n - l.k
+invariant-candidates l = Met l.m l.listing.entries l.initial.alive l.first l.listing.table.now l.listing.plain.now l.initial.undetected l.undetected l.alive l.k

@@ -3,7 +3,7 @@
 -- Assumes nothing.
 use Rattle.std.specs.Prelude.{ℕ, zero, suc, ◌+◌, ◌-◌, ◌*◌, ◌^◌, ◌≤◌, ◌<◌, ◌≡◌, Bool, true, false, List, [], ◌∷◌, ◌++◌, map, length, get_or, take, drop}
 use Rattle.lists.specs.Lists.{up_from, filter}
-use Rattle.undetected.specs.Model.Steps.{divided_counts, Readable}
+use Rattle.undetected.specs.Model.Steps.{divided_counts}
 use Rattle.choice.specs.Choice.{best, first_of}
 use Rattle.choice.specs.Best.{IsCandidate}
 use Rattle.choice.specs.declared.Outcome.{Outcome}
@@ -59,17 +59,15 @@ pub record ToOffer (m p : ℕ) : Type 0 where
   pub degree : CheckDegree m
   pub candidate : IsCandidate m p
 
--- the candidates of degree m whose flags are up over a table, with a list that takes so many counts
-pub record ToChoose (bits entries m : ℕ) (flags : List Bool) (table plain undetected : List ℕ) : Type 0 where
-  pub readable : Readable bits entries table plain
+-- the candidates of degree m whose flags are up, with a list that takes so many counts
+pub record ToChoose (entries m : ℕ) (flags : List Bool) (undetected : List ℕ) : Type 0 where
   pub degree : CheckDegree m
   pub counts : entries ≤ length undetected
   -- somebody is offered
   pub some_offered : (k : ℕ) × (k < 2 ^ (m - 1)) × (get_or flags k false ≡ true)
 
--- all n flags, once the counts of the first that is up stand in the list
-pub record ToCompare (bits entries m n : ℕ) (flags : List Bool) (first : ℕ) (table plain undetected : List ℕ) : Type 0 where
-  pub choose : ToChoose bits entries m flags table plain undetected
-  pub all : n ≡ 2 ^ (m - 1)
-  pub first_up : first ≡ first_of (alive_below flags n)
+-- over a table, once the counts of the first that is up stand in the list
+pub record ToCompare (entries m : ℕ) (flags : List Bool) (first : ℕ) (table plain undetected : List ℕ) : Type 0 where
+  pub choose : ToChoose entries m flags undetected
+  pub first_up : first ≡ first_of (alive_below flags (2 ^ (m - 1)))
   pub first_counted : take entries undetected ≡ divided_counts m table plain entries (2 ^ m + 2 * first + 1)

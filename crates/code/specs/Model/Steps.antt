@@ -1,8 +1,7 @@
--- What the functions below the calls ask (a model): a word of few bits, and a word of an accepted code.
+-- What the functions below the calls ask (a model): a word of few bits, and room for its codeword.
 -- Assumes nothing.
 use Rattle.std.specs.Prelude.{ℕ, ◌*◌, ◌^◌, ◌≤◌, ◌<◌, length}
 use Rattle.order.specs.Order.{Order}
-use Rattle.order.specs.Model.Accepted.{AcceptedCode}
 use Rattle.code.specs.Links.{steps_of}
 
 -- the most steps that a word takes: N is at most 128, and v at most 8
@@ -15,12 +14,7 @@ pub record ShortWord (bits u : ℕ) : Type 0 where
   pub at_most_128 : bits ≤ 128
   pub fits : u < 2 ^ bits
 
--- a word of an accepted code
-pub record CodeWord (o : Order) (u : ℕ) : Type 0 where
-  pub code : AcceptedCode o
-  pub fits : u < 2 ^ o.N
-
--- and room for its codeword
+-- a word of the order's bits, and room for its codeword
 pub record ToEncode (o : Order) (u size : ℕ) : Type 0 where
-  pub word : CodeWord o u
+  pub fits : u < 2 ^ o.N
   pub room : length o.generators * steps_of o ≤ size

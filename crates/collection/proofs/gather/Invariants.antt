@@ -6,7 +6,4 @@ use Rattle.collection.proofs.gather.Given as goal
 use Rattle.collection.proofs.gather.Invariants.Collecting.{Before}
 
 abbrev pub invariant-loop-k : goal.invariant-loop-k
-invariant-loop-k l = Before (order_in l.order) (length l.fn.events) (length l.fn.work) l.k l.at l.events l.work
-
-abbrev pub decreases-loop-k : goal.decreases-loop-k
-decreases-loop-k l = l.last - l.k
+invariant-loop-k l = Before (order_in l.link.order) (length l.fn.events) (length l.fn.work) l.k l.at l.events l.work

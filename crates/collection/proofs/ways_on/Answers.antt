@@ -1,17 +1,16 @@
 -- The four cases.
-use mathlib.Core.Path.{sym, ◌∙◌}
 use mathlib.Core.Bool.{true, false}
 use Rattle.collection.proofs.Nodes.{ways_are}
 use Rattle.collection.proofs.ways_on.Goals as goal
 
-pub returns-then-goes_on-2 : goal.returns-then-goes_on-2
-returns-then-goes_on-2 c = ways_are _ _ _ true true (sym c.goes_on.ensures ∙ c.if-goes_on.true) (sym c.goes_on-then-goes_on.ensures ∙ c.if-goes_on-2.true)
+pub returns-in-true-true : goal.returns-in-true-true
+returns-in-true-true c = ways_are _ _ _ true true (cc) (cc)
 
-pub returns-then-goes_on : goal.returns-then-goes_on
-returns-then-goes_on c = ways_are _ _ _ true false (sym c.goes_on.ensures ∙ c.if-goes_on.true) (sym c.goes_on-then-goes_on.ensures ∙ c.if-goes_on-2.false)
+pub returns-in-true-false : goal.returns-in-true-false
+returns-in-true-false c = ways_are _ _ _ true false (cc) (cc)
 
-pub returns-then-goes_on-3 : goal.returns-then-goes_on-3
-returns-then-goes_on-3 c = ways_are _ _ _ false true (sym c.goes_on.ensures ∙ c.if-goes_on.false) (sym c.goes_on-2.ensures ∙ c.if-goes_on-3.true)
+pub returns-in-false-true : goal.returns-in-false-true
+returns-in-false-true c = ways_are _ _ _ false true (cc) (cc)
 
-pub returns : goal.returns
-returns c = ways_are _ _ _ false false (sym c.goes_on.ensures ∙ c.if-goes_on.false) (sym c.goes_on-2.ensures ∙ c.if-goes_on-3.false)
+pub returns-in-false-false : goal.returns-in-false-false
+returns-in-false-false c = ways_are _ _ _ false false (cc) (cc)

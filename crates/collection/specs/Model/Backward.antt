@@ -2,9 +2,13 @@
 -- walk has the state, how many steps are left to be taken back, and the weight and the inputs of the steps that follow.
 -- `proofs/Backward.antt` proves that these are the definition's events.
 -- Assumes nothing.
-use Rattle.std.specs.Prelude.{ℕ, zero, suc, ◌+◌, ◌-◌, ◌*◌, ◌/◌, ◌%◌, ◌^◌, ◌≤◌, ◌<◌, Bool, cond, ◌||◌, List, [], ◌∷◌, ◌++◌, ltb, eqb, length, set}
+use Rattle.std.specs.Prelude.{ℕ, zero, suc, ◌+◌, ◌-◌, ◌*◌, ◌/◌, ◌%◌, ◌^◌, ◌≤◌, ◌<◌, Bool, cond, ◌||◌, Option, None, Some, List, [], ◌∷◌, ◌++◌, ltb, eqb, length, set}
 use Rattle.code.specs.Model.Steps.{most_steps}
 use Rattle.events.specs.declared.Event.{Event}
+use Rattle.collection.specs.declared.Branches.{Branches}
+use Rattle.collection.specs.declared.Branches.TheVariants as B
+use Rattle.collection.specs.declared.Decision.{Decision}
+use Rattle.collection.specs.declared.Decision.TheVariants as D
 use Rattle.collection.specs.declared.Node.{Node}
 use Rattle.needed.specs.Model.Tables.{need, step_at, length_at, threshold_at, half_at, Tables}
 
@@ -49,41 +53,24 @@ appends (e ∷ es) s = appends es (append s e)
 
 -- ---- what is decided of a node: it is cut, it is an event, or its walk goes on
 
-abbrev pub cut : ℕ
-cut = 0
-
-abbrev pub event : ℕ
-event = 1
-
-abbrev pub on : ℕ
-on = 2
-
-unfoldable pub decided : List ℕ → ℕ → ℕ → Node → ℕ
-decided work at room e = cond (ltb room at) cut (cond (goes_on work e) (cond (eqb e.left 0) event on) cut)
+unfoldable pub decided : List ℕ → ℕ → ℕ → Node → Decision
+decided work at room e = cond (ltb room at) D.Cut (cond (goes_on work e) (cond (eqb e.left 0) D.Event D.On) D.Cut)
 
 -- ---- of two nodes, which go on
 
-abbrev pub neither : ℕ
-neither = 0
+unfoldable pub ways_on : List ℕ → Node → Node → Branches
+ways_on work low high = cond (goes_on work low) (cond (goes_on work high) B.Both B.Low) (cond (goes_on work high) B.High B.Neither)
 
-abbrev pub only_low : ℕ
-only_low = 1
+-- the last that goes on, if any does
+abbrev pub last_of : Branches → Node → Node → Option Node
+last_of B.Neither low high = None
+last_of B.Low low high = Some low
+last_of B.High low high = Some high
+last_of B.Both low high = Some high
 
-abbrev pub only_high : ℕ
-only_high = 2
-
-abbrev pub both : ℕ
-both = 3
-
-unfoldable pub ways_on : List ℕ → Node → Node → ℕ
-ways_on work low high = cond (goes_on work low) (cond (goes_on work high) both only_low) (cond (goes_on work high) only_high neither)
-
--- the last that goes on, if any does, and what is decided of it, where so many steps are left
-abbrev pub last_of : ℕ → Node → Node → Node
-last_of ways low high = cond (ltb ways only_high) low high
-
-unfoldable pub decided_last : ℕ → ℕ → ℕ → ℕ → ℕ
-decided_last ways at room left = cond (eqb ways neither) cut (cond (ltb room at) cut (cond (eqb left 0) event on))
+-- and what is decided of it, where so many steps are left
+abbrev pub decided_last : ℕ → ℕ → ℕ → Decision
+decided_last at room left = cond (ltb room at) D.Cut (cond (eqb left 0) D.Event D.On)
 
 -- ---- what the functions ask: a node's numbers keep sums small
 

@@ -1,41 +1,32 @@
 -- Refused by one of the questions, or the remainder decides.
 use mathlib.Core.Path.{sym, ap, ◌∙◌}
-use borrow.Author.Tests.{ltb-true}
+use Rattle.std.proofs.lemmas.Result.{err_from_is_err_and}
 use Rattle.order.specs.Answer.{accepted}
+use Rattle.order.proofs.FirstNo.{is_answered}
+use Rattle.order.proofs.Refusals.{refuses}
 use Rattle.crc.specs.Check.{message, strip_call}
-use Rattle.crc.proofs.Calls.{accepted_polynomial, refused_early, refused_late, answered}
+use Rattle.crc.proofs.Calls.{accepted_polynomial, passed}
 use Rattle.crc.proofs.Laws.{strip_zero, strip_nonzero}
 use Rattle.crc.proofs.strip.Goals as goal
 
-pub returns-then-refusal-ne0 : goal.returns-then-refusal-ne0
+pub returns-in_err-ask_word : goal.returns-in_err-ask_word
 unfolding strip_call
-returns-then-refusal-ne0 c = refused_early _ _ _ _ _ _ _ c.ask_polynomial-refusal.ensures c.if-refusal-ne0.true
-
-pub returns-then-not-is_below : goal.returns-then-not-is_below
-unfolding strip_call
-returns-then-not-is_below c = refused_late _ _ _ _ _ _ _ c.ask_polynomial-refusal.ensures c.if-refusal-ne0.false (sym c.is_below.ensures ∙ c.if-not-is_below.true)
+returns-in_err-ask_word c =
+    let p = err_from_is_err_and c.from_residual.result c.from_residual.ensures.1 in
+    rw (p.1, p.2) (refuses _ _ _ c.in_err-ask_word.ensures)
 
 pub remainder_of-r-requires : goal.remainder_of-r-requires
 remainder_of-r-requires c =
     let a = c.args in
-    let none = sym c.ask_polynomial-refusal.ensures ∙ c.if-refusal-ne0.false in
-    let g = accepted_polynomial a.bits a.m a.polynomial none in
-    record {
-      modulus = record { at_most_12 = g.at_most_12; degree = g.degree };
-      at_most_128 = g.at_most_128;
-      fits = ltb-true _ _ (sym c.is_below.ensures ∙ c.if-not-is_below.false);
-    }
+    let ok = passed a.bits a.m a.polynomial _ _ (sym c.in_ok-ask_word.ensures) in
+    let g = accepted_polynomial a.bits a.m a.polynomial ok.polynomial in
+    record { modulus = record { at_most_12 = g.at_most_12; degree = g.degree }; at_most_128 = g.at_most_128; fits = ok.small }
 
-pub returns-then-r-ne0 : goal.returns-then-r-ne0
+pub returns-then-r-eq0 : goal.returns-then-r-eq0
 unfolding strip_call
-returns-then-r-ne0 c =
-    let past = c in
-    ap accepted (sym (strip_nonzero _ _ _ _ c.remainder_of-r.ensures c.if-r-ne0.true))
-    ∙ answered _ _ _ _ _ _ _ past.ask_polynomial-refusal.ensures past.if-refusal-ne0.false (sym past.is_below.ensures ∙ past.if-not-is_below.false)
+returns-then-r-eq0 c =
+    ap accepted (ap message c.shift_down.ensures ∙ sym (strip_zero _ _ _ _ c.remainder_of-r.ensures c.if-r-eq0.true)) ∙ is_answered _ _ c.in_ok-ask_word.ensures
 
-pub returns : goal.returns
+pub returns-else-r-eq0 : goal.returns-else-r-eq0
 unfolding strip_call
-returns c =
-    let past = c in
-    ap accepted (ap message c.shift_down.ensures ∙ sym (strip_zero _ _ _ _ c.remainder_of-r.ensures c.if-r-ne0.false))
-    ∙ answered _ _ _ _ _ _ _ past.ask_polynomial-refusal.ensures past.if-refusal-ne0.false (sym past.is_below.ensures ∙ past.if-not-is_below.false)
+returns-else-r-eq0 c = ap accepted (sym (strip_nonzero _ _ _ _ c.remainder_of-r.ensures c.if-r-eq0.false)) ∙ is_answered _ _ c.in_ok-ask_word.ensures

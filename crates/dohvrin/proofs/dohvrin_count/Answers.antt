@@ -1,6 +1,6 @@
 -- The call, and its answer as hosts see it.
-use Rattle.answers.proofs.Hosts.{row_answer_lem}
+use Rattle.answers.proofs.Hosts.{row_told}
 use Rattle.dohvrin.proofs.dohvrin_count.Goals as goal
 
 pub returns : goal.returns
-returns c = row_answer_lem _ c.count.result _ _ c.answered.ensures c.count.ensures
+returns c = row_told _ c.count.result c.into.ensures c.count.ensures

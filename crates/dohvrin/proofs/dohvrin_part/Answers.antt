@@ -1,20 +1,27 @@
 -- The part as the library finds it, by its place.
-use mathlib.Core.Path.{◌∙◌}
+use mathlib.Core.Path.{refl, sym, ◌∙◌}
 use native.Mathlib.Omega.{arith}
-use Rattle.dohvrin.proofs.Placed.{no_part, part_bounds, before_is, a_part}
+use Rattle.order.proofs.Refusals.{some_number}
+use Rattle.paths.proofs.Parts.{sum_told}
+use Rattle.dohvrin.proofs.Placed.{no_part, part_bounds, some_before, a_part}
 use Rattle.dohvrin.proofs.dohvrin_part.Goals as goal
 
-pub returns-then-refusal-ne0 : goal.returns-then-refusal-ne0
-returns-then-refusal-ne0 c = c.part_answer.ensures ∙ no_part _ _ _ _ c.part-words.ensures.refusal_after c.if-refusal-ne0.true
-
 pub overflow_sub-w : goal.overflow_sub-w
-overflow_sub-w c = (part_bounds _ _ _ _ c.part-words.ensures.refusal_after c.if-refusal-ne0.false).0
+overflow_sub-w c = (part_bounds _ _ _ c.in-Ok.ensures.number).0
 
-pub paths_to-before-requires : goal.paths_to-before-requires
-paths_to-before-requires c = let h = (part_bounds _ _ _ _ c.part-words.ensures.refusal_after c.if-refusal-ne0.false).1 in (omega arith, omega arith)
+pub paths_to-requires : goal.paths_to-requires
+paths_to-requires c = let h = (part_bounds _ _ _ c.in-Ok.ensures.number).1 in (omega arith, omega arith)
 
-pub overflow_mul-before : goal.overflow_mul-before
-overflow_mul-before c = let h = (part_bounds _ _ _ _ c.part-words.ensures.refusal_after c.if-refusal-ne0.false).2 in let e = before_is _ _ _ _ c.part-words.ensures.refusal_after c.if-refusal-ne0.false _ c.paths_to-before.ensures in record { fits = omega arith }
+pub unwrap-before-requires : goal.unwrap-before-requires
+unwrap-before-requires c = rw (c.paths_to.ensures, some_before _ _ _ c.in-Ok.ensures.number) refl
 
-pub returns : goal.returns
-returns c = c.part_answer-2.ensures ∙ a_part _ _ _ _ c.part-words.ensures.refusal_after c.if-refusal-ne0.false _ _ c.part-words.ensures.result_value c.paths_to-before.ensures
+pub overflow_mul-result : goal.overflow_mul-result
+overflow_mul-result c =
+    let told = sum_told _ _ _ _ (sym c.unwrap-before.ensures ∙ c.paths_to.ensures) in
+    record { fits = omega (arith, told.1) }
+
+pub returns-in-Ok : goal.returns-in-Ok
+returns-in-Ok c = a_part _ _ _ c.in-Ok.ensures.number _ _ c.in-Ok.ensures.words (sym c.unwrap-before.ensures ∙ c.paths_to.ensures)
+
+pub returns-in-Err : goal.returns-in-Err
+returns-in-Err c = no_part _ _ _ _ (c.from.ensures ∙ c.in-Err.ensures.number) (λ z. some_number _ (sym c.from.ensures ∙ z))

@@ -1,6 +1,6 @@
 -- The call, and its answer as hosts see it.
-use Rattle.answers.proofs.Hosts.{row_answer_lem}
+use Rattle.answers.proofs.Hosts.{row_told}
 use Rattle.dohvrin.proofs.dohvrin_quote.Goals as goal
 
 pub returns : goal.returns
-returns c = row_answer_lem _ c.quote.result _ _ c.answered.ensures c.quote.ensures
+returns c = row_told _ c.quote.result c.into.ensures c.quote.ensures

@@ -1,37 +1,31 @@
--- One entry more counted, and all of them at the end.
-use Rattle.std.proofs.Common.{◌-◌, ◌+◌, ◌≡◌, ◌≤◌, ℕ, List, sym, ◌∙◌, ap, get_or, arith}
-use mathlib.Core.Bool.{cond}
+-- The items that the closure lets through are the entries that the model counts, read one by one.
+use Rattle.std.proofs.Common.{◌≡◌, Bool, cond, List, [], ◌∷◌, refl, sym, ap, ◌∙◌, length, get_or, rules, tests}
+use Rattle.std.specs.List as S
+use Rattle.std.proofs.lemmas.Iterator.{YieldsList-from_slice}
+use Rattle.std.proofs.lemmas.Iterator.Consumers.{YieldsList-from_filter, YieldsList-at, count_from_yields_List}
+use native.Mathlib.Nat.{le_refl}
 use lib.Dec.{leb}
-use Rattle.lists.specs.Lists.{up_from, count}
-use Rattle.lists.proofs.Filters.{between, between_none, between_next, between_le}
+use Rattle.std.proofs.Math.Seq.{take-length}
+use Rattle.lists.specs.Lists.{up_from, filter, count}
+use Rattle.lists.proofs.Lengths.{take-get_or}
+use Rattle.lists.proofs.Filters.{count_map}
 use Rattle.events.specs.declared.Event.{Event}
 use Rattle.events.specs.Events.{no_event}
-use Rattle.events.specs.Model.Counting.{count_within, one_more}
-use Rattle.events.proofs.count_within.Invariants.{passes, Stage}
+use Rattle.events.specs.Model.Counting.{count_within}
 use Rattle.events.proofs.count_within.Goals as goal
 
-counted-again : (table : List Event) (n steps k found : ℕ) → Stage table n steps k found → k + 1 ≤ n → (e : Event) (more : ℕ) → e ≡ get_or table k no_event
-    → more ≡ one_more found e steps → Stage table n steps (k + 1) more
-unfolding one_more
-counted-again table n steps k found x inside e more is said =
-    let counted : more ≡ between (passes table steps) 0 (k + 1) =
-    said ∙ ap (λ (f : Event). found + cond (leb f.length steps) 1 0) is
-    ∙ ap (λ (y : ℕ). y + cond (passes table steps k) 1 0) x.counted ∙ sym (between_next (passes table steps) 0 k (omega arith)) in
-    let most = between_le (passes table steps) 0 (k + 1) in
-    record { inside = inside; few = omega arith; counted = counted }
-
-all-counted : (table : List Event) (n steps k found : ℕ) → Stage table n steps k found → n ≤ k → found ≡ count_within table n steps
-unfolding count_within
-all-counted table n steps k found x last =
-    let inside = x.inside in
-    let all : k - 0 ≡ n = omega arith in
-    x.counted ∙ ap (λ (y : ℕ). count (passes table steps) (up_from 0 y)) all
-
-pub loop-k-init : goal.loop-k-init
-loop-k-init c = record { inside = omega arith; few = omega arith; counted = sym (between_none (passes _ _) 0) }
-
-pub loop-k-preserved : goal.loop-k-preserved
-loop-k-preserved c = counted-again _ _ _ _ _ c.loop-k.invariant (omega arith) _ _ c.event_at-e.ensures c.one_more-found.ensures
+-- std's filter is that of `lists`
+filtered : (f : Event → Bool) (xs : List Event) → S.filter f xs ≡ filter f xs
+unfolding filter
+filtered f [] = refl
+filtered f (x ∷ xs) = ap (λ (rest : List Event). cond (f x) (x ∷ rest) rest) (filtered f xs)
 
 pub returns : goal.returns
-returns c = all-counted _ _ _ _ _ c.loop-k.invariant (omega arith)
+unfolding count_within count
+returns c =
+    let a = c.args in
+    let all = a.events.now in
+    let short : Event → Bool = λ e. leb e.length a.steps in
+    count_from_yields_List _ _ c.count.ensures.ran (YieldsList-from_filter _ short (YieldsList-at c.filter.ensures.source (YieldsList-from_slice all cc)) c.filter.ensures.closure (λ x r q k. search (rules, tests)))
+    ∙ ap length (filtered short all) ∙ ap (count short) (sym (take-length all) ∙ take-get_or no_event all (length all) (le_refl (length all)))
+    ∙ count_map short (λ k. get_or all k no_event) (up_from 0 (length all))

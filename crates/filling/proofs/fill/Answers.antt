@@ -1,81 +1,72 @@
--- The events are noted, then each weight's words are listed, sorted and counted (`Stages.antt`).
-use Prim.Native.Nat.{ℕ, ◌-◌, ◌/◌, ◌≤◌, ◌<◌}
+-- The events are noted, then each weight's words are listed, sorted and counted (`Standing.antt`).
+use Prim.Native.Nat.{◌/◌, ◌≤◌}
 use native.Mathlib.Omega.{arith}
-use mathlib.Core.Path.{◌≡◌, sym, ap, ap₂, ◌∙◌, subst}
-use mathlib.Core.List.{List}
-use lib.ListN.{length, replicate}
+use mathlib.Core.Path.{◌≡◌, ◌∙◌}
+use lib.ListN.{length}
 use Rattle.lists.specs.Lists.{cleared}
 use Rattle.order.specs.Answers.{order_in}
-use Rattle.bounds.specs.Model.Places.{area_size}
-use Rattle.filling.specs.Model.Filling.{later_weight}
-use Rattle.filling.proofs.Filled.{filled}
-use Rattle.filling.proofs.Standing.{Begins}
-use Rattle.filling.proofs.Stages.{Ready, Stage, ready, staged, noted, begun, asked, settles, stands_next, nearer, ends_held, ends_full}
+use Rattle.filling.proofs.Filled.{filled, too_many}
+use Rattle.filling.proofs.Standing.{Begins, ready, noted, begun, asked, settled, stands_next, overfull, ended}
 use Rattle.filling.proofs.fill.Goals as goal
+use Rattle.filling.proofs.fill.Goals.{After-unbegun_first-first, After-clear-3, else-loop-w-test, then-loop-w-test+then-room-at}
 
 pub survey-requires : goal.survey-requires
-survey-requires c = let b = ready (length c.args.paths.now) c.requires in (b.wide, noted b c.args.n c.requires.all)
+survey-requires c = let b = ready (length c.args.paths.now) c.requires in (b.wide, noted b)
 
-pub index-requires : goal.index-requires
-index-requires c =
-    let b = ready (length c.args.paths.now) c.requires in
-    (c.requires.order.code, subst (λ (n : ℕ). area_size ≤ n) (sym c.survey.auto.work) b.wide)
+pub index_states-requires : goal.index_states-requires
+index_states-requires c = rw c.survey.auto.work (ready (length c.args.paths.now) c.requires).wide
+
+begins : (c : After-unbegun_first-first) → Begins (order_in c.args.order) c.event_states-states.result c.unbegun_first-first.result
+begins c = record { all_states = rw c.new-link.ensures at c.event_states-states.ensures; first_is = rw c.new-link.ensures at c.unbegun_first-first.ensures }
 
 pub loop-w-init : goal.loop-w-init
 unfolding cleared
 loop-w-init c = λ to_fill.
-    let b = ready (length c.args.paths.now) to_fill in
-    begun b c.args.n c.args.work.now c.survey.new.work c.index.new.work c.clear_words.new.words c.clear_words-2.new.words to_fill.all to_fill.zeros
-    c.survey.ensures c.index.ensures (c.index.auto.work ∙ c.survey.auto.work) c.clear_words.ensures c.clear_words-2.ensures
+    begun (ready (length c.args.paths.now) to_fill) to_fill.zeros c.survey.ensures (rw (c.steps.ensures, c.new-link.ensures) at c.index_states.ensures)
+    (c.index_states.auto.work ∙ c.survey.auto.work) c.clear.ensures c.clear-2.ensures
 
 pub list_weight-next-requires : goal.list_weight-next-requires
 unfolding order_in
-list_weight-next-requires c =
-    let l = c.loop-w in
-    let b = ready (length c.args.paths.now) c.requires in
-    let x = staged b l.w l.at l.paths l.plain l.work (l.invariant c.requires) in
-    let begins : Begins (order_in c.args.order) c.state_count-states.result c.unbegun_first-first.result =
-    record { all_states = c.state_count-states.ensures; first_is = c.unbegun_first-first.ensures } in
-    asked b x (omega arith) _ _ begins
+list_weight-next-requires c = asked (c.loop-w.invariant c.requires) (omega arith) (begins (goal.at.list_weight-next-requires c).After-unbegun_first-first)
 
 pub settle-requires : goal.settle-requires
 unfolding order_in
-settle-requires c =
-    let l = c.loop-w in
-    let b = ready (length c.args.paths.now) c.requires in
-    let x = staged b l.w l.at l.paths l.plain l.work (l.invariant c.requires) in
-    let begins : Begins (order_in c.args.order) c.state_count-states.result c.unbegun_first-first.result =
-    record { all_states = c.state_count-states.ensures; first_is = c.unbegun_first-first.ensures } in
-    settles b x (omega arith) _ _ begins _ _ _ c.list_weight-next.ensures
-
--- the weight that comes next
-pub loop-w-smaller : goal.loop-w-smaller
-unfolding order_in
-loop-w-smaller c =
-    let l = c.loop-w in
-    let b = ready (length c.args.paths.now) c.requires in
-    let x = staged b l.w l.at l.paths l.plain l.work (l.invariant c.requires) in
-    let is_then = c.later_weight-later.ensures ∙ ap₂ (λ (d m : ℕ). later_weight l.w d c.list_weight-next.result (m / 2)) c.threshold_of-d.ensures c.clear_words.auto.words in
-    subst (λ (d : ℕ). d - c.later_weight-later.result < d - l.w) (sym c.threshold_of-d.ensures) (nearer b x (omega arith) _ _ is_then)
+settle-requires c = settled (c.loop-w.invariant c.requires) (omega arith) (begins (goal.at.settle-requires c).After-unbegun_first-first) c.list_weight-next.ensures
 
 pub loop-w-preserved : goal.loop-w-preserved
 unfolding order_in
 loop-w-preserved c = λ to_fill.
-    let l = c.loop-w in
-    let b = ready (length c.args.paths.now) to_fill in
-    let x = staged b l.w l.at l.paths l.plain l.work (l.invariant to_fill) in
-    let begins : Begins (order_in c.args.order) c.state_count-states.result c.unbegun_first-first.result =
-    record { all_states = c.state_count-states.ensures; first_is = c.unbegun_first-first.ensures } in
-    let is_then = c.later_weight-later.ensures ∙ ap₂ (λ (d m : ℕ). later_weight l.w d c.list_weight-next.result (m / 2)) c.threshold_of-d.ensures c.clear_words.auto.words in
-    stands_next b x (omega arith) _ _ begins _ _ _ c.list_weight-next.ensures (c.list_weight-next.auto.work ∙ x.stands.work_size_is) _ _ _ is_then c.settle.ensures.0 c.settle.ensures.1
+    let s = c.loop-w.invariant to_fill in
+    let room : c.list_weight-next.result ≤ length c.args.paths.now / 2 = let e = c.clear.auto.items in omega arith in
+    stands_next s (omega arith) (begins (goal.at.loop-w-preserved c).After-unbegun_first-first) c.list_weight-next.ensures room (c.list_weight-next.auto.work ∙ s.work_size_is)
+    c.settle.ensures.0 c.settle.ensures.1
 
+-- the work area ends as zeros
+left : (c : After-clear-3) → c.clear-3.new.items ≡ cleared 0 c.args.work.now
+unfolding cleared
+left c = rw (c.loop-w-test.auto.work ∙ (c.loop-w.invariant c.requires).work_size_is) at c.clear-3.ensures
+
+-- the table is too small
+pub returns-then-room-at-2 : goal.returns-then-room-at-2
+unfolding order_in
+returns-then-room-at-2 c =
+    let s = c.loop-w.invariant c.requires in
+    let e = c.clear.auto.items in
+    let past = c.if-room-at-2.true in
+    too_many (left (goal.at.returns-then-room-at-2 c).After-clear-3)
+    (elim c.loop-w-test.branch [
+      | else-loop-w-test w ↦ absurd (let h = s.held in let p = h.place in let f = h.fits in let a = w.at-is in omega arith)
+      | then-loop-w-test+then-room-at w ↦
+          overfull s (omega arith) (begins (goal.at.returns-then-room-at-2 c).After-unbegun_first-first) w.list_weight-next.ensures (let a = w.at-is in omega arith)
+    ])
+
+-- no weight is left
 pub returns : goal.returns
-unfolding order_in cleared
+unfolding order_in
 returns c =
-    let l = c.loop-w in
-    let b = ready (length c.args.paths.now) c.requires in
-    let x = staged b l.w l.at l.paths l.plain l.work (l.invariant c.requires) in
-    let over : c.args.order.d ≤ l.w = omega arith in
-    let zeros : c.clear_words-3.new.words ≡ replicate (length c.args.work.now) 0 = c.clear_words-3.ensures ∙ ap (λ (n : ℕ). replicate n 0) x.stands.work_size_is in
-    filled (order_in c.args.order) c.args.paths.now c.args.plain.now b.ok c.requires.counts l.at l.paths l.plain (ends_held b x over)
-    (λ h. (ends_full b x over h).1) c.args.work.now c.clear_words-3.new.words zeros
+    let s = c.loop-w.invariant c.requires in
+    let room = c.if-room-at-2.false in
+    elim c.loop-w-test.branch [
+      | else-loop-w-test w ↦ rw (w.at-is, w.paths-is, w.plain-is) (filled (left (goal.at.returns c).After-clear-3) (ended s (omega arith)))
+      | then-loop-w-test+then-room-at w ↦ absurd (let a = w.at-is in let past = w.if-room-at.true in omega arith)
+    ]

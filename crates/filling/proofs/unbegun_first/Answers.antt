@@ -1,18 +1,14 @@
 -- By the kind of link.
-use mathlib.Core.Path.{sym, ap, ◌∙◌}
-use mathlib.Core.Bool.{Bool, cond}
-use Prim.Native.Nat.{ℕ}
+use mathlib.Core.Path.{◌≡◌, refl, ap, ◌∙◌}
+use mathlib.Core.Bool.{Bool, true, false, cond}
+use mir.Val.{bool_byte}
 use Rattle.paths.specs.Model.Joining.{unbegun_first}
 use Rattle.filling.proofs.unbegun_first.Goals as goal
 
--- what the kind gives
-abbrev given : Bool → ℕ
-given b = cond b 1 0
-
-pub returns-then-is_terminated : goal.returns-then-is_terminated
-unfolding unbegun_first
-returns-then-is_terminated c = sym (ap given (sym c.is_terminated.ensures ∙ c.if-is_terminated.true))
+byte : (b : Bool) → bool_byte b ≡ cond b 1 0
+byte true = refl
+byte false = refl
 
 pub returns : goal.returns
 unfolding unbegun_first
-returns c = sym (ap given (sym c.is_terminated.ensures ∙ c.if-is_terminated.false))
+returns c = c.from.ensures ∙ ap bool_byte c.is_terminated.ensures ∙ byte _

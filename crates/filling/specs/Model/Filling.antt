@@ -1,8 +1,10 @@
 -- What the filling of a path table computes (a model): the words of one weight sorted and counted, and all weights' one after another.
 -- Assumes nothing.
-use Rattle.std.specs.Prelude.{ℕ, ◌+◌, ◌-◌, ◌/◌, ◌≤◌, ◌<◌, ◌≡◌, cond, List, leb, length, set}
+use Rattle.std.specs.Prelude.{ℕ, ◌-◌, ◌/◌, ◌≤◌, ◌<◌, ◌≡◌, cond, List, leb, length, set, Result, IfOk, IfErr}
 use Rattle.lists.specs.Lists.{padded, cleared}
 use Rattle.order.specs.Order.{Order}
+use Rattle.order.specs.declared.refusal.Refusal.{Refusal}
+use Rattle.order.specs.declared.refusal.Refusal.TheVariants as R
 use Rattle.order.specs.Questions.{work_size}
 use Rattle.order.specs.Model.Accepted.{AcceptedCode, Accepted}
 use Rattle.order.specs.Model.Lengths.{NoLonger}
@@ -20,10 +22,6 @@ settled_paths paths at next = cond (leb next (length paths / 2)) (sorted_part pa
 unfoldable pub settled_counts : ℕ → List ℕ → ℕ → ℕ → ℕ → List ℕ
 settled_counts size counts at next w = cond (leb next (size / 2)) (set counts (w - 1) (next - at)) counts
 
--- the weight after w; none where the table is too small
-unfoldable pub later_weight : ℕ → ℕ → ℕ → ℕ → ℕ
-later_weight w d next room = cond (leb next room) (w + 1) d
-
 -- what that asks: the words are of so many bits, and the weight has a count
 pub record Settles (paths counts : List ℕ) (at next w bits : ℕ) : Type 0 where
   pub some_weight : 1 ≤ w
@@ -40,11 +38,11 @@ pub record TableFor (o : Order) (table : List Event) : Type 0 where
   pub collected : table ≡ event_table (length table) longer
   pub fits : length (events longer) ≤ length table
 
--- what is asked: such a table with n events, and lists that are long enough
-pub record ToFill (o : Order) (table : List Event) (n : ℕ) (plain work : List ℕ) : Type 0 where
+-- what is asked: such a table of events alone, and lists that are long enough
+pub record ToFill (o : Order) (table : List Event) (plain work : List ℕ) : Type 0 where
   pub order : Accepted o
   pub from : TableFor o table
-  pub all : n ≡ length (events from.longer)
+  pub all : length table ≡ length (events from.longer)
   pub counts : o.d - 1 ≤ length plain
   pub wide : work_size ≤ length work
   pub zeros : work ≡ cleared 0 work
@@ -56,7 +54,7 @@ pub record AllPaths (o : Order) (table after plain counts : List ℕ) (n : ℕ) 
   pub words : after ≡ path_table (length table) o
   pub plain_counts_are : counts ≡ padded (length plain) 0 (plain_counts o)
 
-pub record Filled (o : Order) (table after plain counts work left : List ℕ) (n : ℕ) : Type 0 where
-  pub inside : n ≤ path_room (length table) → AllPaths o table after plain counts n
-  pub past : path_room (length table) < n → path_room (length table) < length (paths o)
+pub record Filled (o : Order) (table after plain counts work left : List ℕ) (r : Result ℕ Refusal) : Type 0 where
+  pub inside : IfOk r (λ n. AllPaths o table after plain counts n)
+  pub past : IfErr r (λ e. (e ≡ R.TooManyPaths) × (path_room (length table) < length (paths o)))
   pub zeros : left ≡ cleared 0 work

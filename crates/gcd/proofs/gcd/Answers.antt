@@ -1,12 +1,9 @@
-use mathlib.Core.Path.{◌≡◌, refl, sym, ap, ◌∙◌, subst}
+use mathlib.Core.Path.{◌≡◌, sym, ap, ◌∙◌, subst}
 use Prim.Native.Nat.{ℕ, ◌<◌}
 use native.Mathlib.Omega.{arith}
 use Rattle.gcd.specs.Model.Gcd.{gcd}
 use Rattle.gcd.proofs.Euclid.{remainder_falls, gcd_step, gcd_zero}
 use Rattle.gcd.proofs.gcd.Goals as goal
-
-pub loop-divisor-init : goal.loop-divisor-init
-loop-divisor-init c = refl
 
 pub loop-divisor-smaller : goal.loop-divisor-smaller
 loop-divisor-smaller c =

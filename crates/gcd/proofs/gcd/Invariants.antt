@@ -1,9 +1,6 @@
 -- The invariant: the dividend and the divisor have the greatest common divisor of the two numbers given. The divisor falls.
-use mathlib.Core.Path.{◌≡◌, refl, sym, ap, ◌∙◌, subst}
-use Prim.Native.Nat.{ℕ, ◌<◌}
-use native.Mathlib.Omega.{arith}
+use mathlib.Core.Path.{◌≡◌}
 use Rattle.gcd.specs.Model.Gcd.{gcd}
-use Rattle.gcd.proofs.Euclid.{remainder_falls, gcd_step, gcd_zero}
 use Rattle.gcd.proofs.gcd.Given as goal
 
 abbrev pub invariant-loop-divisor : goal.invariant-loop-divisor

@@ -1,26 +1,22 @@
-use mathlib.Core.Path.{◌≡◌, refl, sym, ap, ◌∙◌}
-use Prim.Native.Nat.{ℕ, ◌+◌, ◌-◌, ◌≤◌, zero-le}
+use mathlib.Core.Path.{refl, sym, ap, ◌∙◌}
+use Prim.Native.Nat.{ℕ, ◌+◌}
 use native.Mathlib.Omega.{arith}
-use lib.ListN.{length, drop}
-use borrow.Author.Rules.{rules}
+use lib.ListN.{drop}
 use Rattle.gcd.specs.Model.Gcd.{gcd_with, gcd_all}
 use Rattle.gcd.proofs.Euclid.{gcd_with-next, gcd_with_end}
 use Rattle.gcd.proofs.gcd_of_all.Goals as goal
 
-pub loop-i-init : goal.loop-i-init
+pub loop-g-init : goal.loop-g-init
 unfolding gcd_all
-loop-i-init c = (zero-le, refl)
+loop-g-init c = refl
 
-pub loop-i-preserved : goal.loop-i-preserved
-loop-i-preserved c =
-    let at-loop = c in
-    let gs = at-loop.args.polynomials.now in
-    let l = at-loop.loop-i in (
-      omega arith,
-      l.invariant.1 ∙ gcd_with-next gs l.d l.i (omega arith) ∙ ap (λ (x : ℕ). gcd_with x (drop (l.i + 1) gs)) (sym c.gcd-d.ensures),
-    )
+pub loop-g-preserved : goal.loop-g-preserved
+loop-g-preserved c =
+    let gs = c.args.polynomials.now in
+    let l = c.loop-g in
+    l.invariant ∙ gcd_with-next gs l.d l.g-index (omega arith) ∙ ap (λ (x : ℕ). gcd_with x (drop (l.g-index + 1) gs)) (sym c.gcd-d.ensures)
 
 pub returns : goal.returns
 returns c =
-    let l = c.loop-i in
-    sym (l.invariant.1 ∙ gcd_with_end c.args.polynomials.now l.d l.i (omega arith))
+    let l = c.loop-g in
+    sym (l.invariant ∙ gcd_with_end c.args.polynomials.now l.d l.g-index (omega arith))

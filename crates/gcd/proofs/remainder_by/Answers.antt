@@ -1,9 +1,7 @@
-use mathlib.Core.Path.{◌≡◌, refl, sym, ◌∙◌}
-use Prim.Native.Nat.{◌<◌, ◌^◌}
+use mathlib.Core.Path.{refl, sym, ◌∙◌}
 use native.Mathlib.Omega.{arith}
-use Rattle.poly.specs.Poly.{◌⊕◌, remainder}
+use Rattle.poly.specs.Poly.{◌⊕◌}
 use Rattle.poly.proofs.Remainder.{remainder_small}
-use Rattle.gcd.specs.Model.Gcd.{degree}
 use Rattle.gcd.proofs.Aligned.{lower, up_lt, falls, keeps}
 use Rattle.gcd.proofs.remainder_by.Goals as goal
 

@@ -1,11 +1,8 @@
 -- The invariant: what is left has the remainder that is asked for. It falls until it is that remainder.
-use mathlib.Core.Path.{◌≡◌, refl, sym, ◌∙◌}
+use mathlib.Core.Path.{◌≡◌}
 use Prim.Native.Nat.{◌<◌, ◌^◌}
-use native.Mathlib.Omega.{arith}
-use Rattle.poly.specs.Poly.{◌⊕◌, remainder}
-use Rattle.poly.proofs.Remainder.{remainder_small}
+use Rattle.poly.specs.Poly.{remainder}
 use Rattle.gcd.specs.Model.Gcd.{degree}
-use Rattle.gcd.proofs.Aligned.{lower, up_lt, falls, keeps}
 use Rattle.gcd.proofs.remainder_by.Given as goal
 
 abbrev pub invariant-loop-r : goal.invariant-loop-r

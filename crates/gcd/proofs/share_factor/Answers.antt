@@ -3,7 +3,6 @@ use mathlib.Core.Path.{sym, ap, ◌∙◌}
 use mathlib.Core.Bool.{not}
 use Prim.Native.Nat.{ℕ}
 use lib.Dec.{eqb}
-use borrow.Author.Rules.{rules}
 use Rattle.gcd.proofs.SharedFactor.{share_factor_by_gcd}
 use Rattle.gcd.proofs.share_factor.Goals as goal
 

@@ -1,14 +1,15 @@
 -- The first weights of one more length go on top.
-use mathlib.Core.Path.{refl}
-use borrow.Author.Rules.{rules}
 use Rattle.order.specs.Answers.{order_in}
 use Rattle.lengths.proofs.note.Goals as goal
 
-pub add_firsts-firsts-requires : goal.add_firsts-firsts-requires
+pub invariant_of-listing : goal.invariant_of-listing
 unfolding order_in
-add_firsts-firsts-requires c =
-    rw c.counted_weights-entries.ensures c.requires
+invariant_of-listing c = rw c.counted_weights-entries.ensures (record { readable = c.requires.readable })
+
+pub add_firsts-requires : goal.add_firsts-requires
+unfolding order_in
+add_firsts-requires c = rw c.counted_weights-entries.ensures c.requires.firsts
 
 pub returns : goal.returns
 unfolding order_in
-returns c = (refl, rw c.counted_weights-entries.ensures at c.add_firsts-firsts.ensures)
+returns c = rw c.counted_weights-entries.ensures at c.add_firsts.ensures

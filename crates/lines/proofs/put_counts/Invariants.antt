@@ -1,5 +1,5 @@
 -- The invariant: the lines of the first k entries, of weights 1 to k, have been put.
-use Prim.Native.Nat.{◌*◌, ◌-◌, ◌≤◌}
+use Prim.Native.Nat.{◌*◌}
 use mathlib.Core.List.{flat_map}
 use Rattle.lists.specs.Lists.{up_from}
 use Rattle.lines.specs.Lines.{count_line}
@@ -8,7 +8,4 @@ use Rattle.lines.proofs.put_counts.Given as goal
 
 abbrev pub invariant-loop-k : goal.invariant-loop-k
 invariant-loop-k l =
-    (l.k ≤ l.entries) × Put (51 * l.k) l.initial.buffer l.at (flat_map (count_line l.plain l.undetected) (up_from 1 l.k)) l.buffer l.end
-
-abbrev pub decreases-loop-k : goal.decreases-loop-k
-decreases-loop-k l = l.entries - l.k
+    Put (51 * l.k) l.initial.buffer l.at (flat_map (count_line l.plain l.undetected) (up_from 1 l.k)) l.buffer l.end

@@ -8,8 +8,8 @@ use Rattle.undetected.specs.FirstUndetected.{first_above0}
 use Rattle.undetected.specs.Model.Steps.{divided_counts}
 use Rattle.undetected.proofs.FirstUndetected.{first_to}
 use Rattle.undetected.proofs.Counts.{length-divided_counts}
-use Rattle.choice.proofs.Candidates.{few_candidates, candidate_divisor}
-use Rattle.narrowing.proofs.Written.{written_none, written_next}
+use Rattle.choice.proofs.Candidates.{candidate_divisor}
+use Rattle.narrowing.proofs.Written.{written_next}
 use Rattle.narrowing.proofs.add_firsts.Invariants.{onTop}
 use Rattle.narrowing.proofs.add_firsts.Goals as goal
 
@@ -28,41 +28,28 @@ most m p entries w table plain few e =
 room : (w scale rank : ℕ) → w ≤ 64 → rank < scale → scale ≤ 128 ^ 7 → w * scale + rank ≤ 65 * 128 ^ 7
 room w scale rank few had seven = omega (arith, mul-le-mul_right scale few)
 
-pub loop-k-init : goal.loop-k-init
-loop-k-init c = (omega arith, written_none _ _ _)
-
-pub candidate-requires : goal.candidate-requires
-candidate-requires c = record { degree = c.requires.degree; below = omega (arith, c.power-n.ensures) }
-
 pub first_weight-first-requires : goal.first_weight-first-requires
 first_weight-first-requires c =
     let asked = c.requires in
     record {
-      readable = asked.readable;
-      divisor = candidate_divisor asked.degree c.power-n.ensures c.loop-k-test.true c.candidate.ensures;
+      divisor = candidate_divisor asked.degree c.count_candidates-n.ensures.0 c.loop-k-test.true c.candidate.ensures;
       few = asked.few;
     }
-
-pub bounds-before-k : goal.bounds-before-k
-bounds-before-k c = omega (arith, c.power-n.ensures, few_candidates c.args.m c.requires.degree.at_most_12)
 
 pub overflow_mul-ranks : goal.overflow_mul-ranks
 overflow_mul-ranks c =
     let few = most _ _ _ _ _ _ c.requires.few c.first_weight-first.ensures in
-    let had = c.requires.below c.loop-k.k (omega (arith, c.power-n.ensures)) in
+    let had = c.requires.below c.loop-k.k (omega arith) in
     record { fits = omega (arith, room c.first_weight-first.result _ _ few had c.requires.seven) }
 
 pub overflow_add-ranks : goal.overflow_add-ranks
 overflow_add-ranks c =
     let few = most _ _ _ _ _ _ c.requires.few c.first_weight-first.ensures in
-    let had = c.requires.below c.loop-k.k (omega (arith, c.power-n.ensures)) in
+    let had = c.requires.below c.loop-k.k (omega arith) in
     record { fits = omega (arith, room c.first_weight-first.result _ _ few had c.requires.seven) }
-
-pub bounds-ranks-k : goal.bounds-ranks-k
-bounds-ranks-k c = omega (arith, c.power-n.ensures, few_candidates c.args.m c.requires.degree.at_most_12)
 
 pub loop-k-preserved : goal.loop-k-preserved
 loop-k-preserved c =
     let mine = on-top _ _ _ _ c.args.firsts.scale c.args.firsts.ranks c.loop-k.k c.first_weight-first.ensures c.candidate.ensures in
-    let inside : c.loop-k.k < 2048 = omega (arith, c.power-n.ensures, few_candidates c.args.m c.requires.degree.at_most_12) in
-    (omega arith, written_next _ _ _ _ inside mine c.loop-k.invariant.1)
+    let inside : c.loop-k.k < 2048 = omega arith in
+    written_next _ _ _ _ inside mine c.loop-k.invariant

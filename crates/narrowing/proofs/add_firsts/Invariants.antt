@@ -1,6 +1,6 @@
 -- The invariant: the first weights of the candidates before k stand on top of what they had.
 use mathlib.Core.List.{List}
-use Prim.Native.Nat.{ℕ, ◌+◌, ◌-◌, ◌*◌, ◌^◌, ◌≤◌}
+use Prim.Native.Nat.{ℕ, ◌+◌, ◌*◌, ◌^◌}
 use lib.ListN.{get_or}
 use Rattle.undetected.specs.FirstUndetected.{first_above0}
 use Rattle.undetected.specs.Model.Steps.{divided_counts}
@@ -12,7 +12,4 @@ abbrev pub onTop : (m entries : ℕ) (table plain : List ℕ) (scale : ℕ) (ran
 onTop m entries table plain scale ranks k = first_above0 1 (divided_counts m table plain entries (2 ^ m + 2 * k + 1)) * scale + get_or ranks k 0
 
 abbrev pub invariant-loop-k : goal.invariant-loop-k
-invariant-loop-k l = (l.k ≤ l.n) × Written 0 (onTop l.m l.entries l.table l.plain l.scale l.before) 2048 l.ranks l.k
-
-abbrev pub decreases-loop-k : goal.decreases-loop-k
-decreases-loop-k l = l.n - l.k
+invariant-loop-k l = Written 0 (onTop l.m l.listing.entries l.listing.table.now l.listing.plain.now l.scale l.before) 2048 l.ranks l.k

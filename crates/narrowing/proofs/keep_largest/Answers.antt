@@ -1,31 +1,28 @@
 use native.Mathlib.Omega.{arith}
-use mathlib.Core.Path.{refl, ◌∙◌, subst}
-use Prim.Native.Nat.{ℕ}
-use Rattle.choice.proofs.Candidates.{few_candidates}
+use mathlib.Core.Path.{◌≡◌, refl, ap, ◌∙◌, subst}
+use Prim.Native.Nat.{ℕ, ◌≤◌}
+use lib.Dec.{leb}
+use lib.ListN.{length, take}
+use lib.Seq.{length-take-le}
+use Rattle.std.proofs.Common.{get_or-take}
 use Rattle.narrowing.specs.Model.Firsts.{LargestBelow}
-use Rattle.narrowing.proofs.Largest.{largest-all}
-use Rattle.narrowing.proofs.Written.{written_none, written_next}
+use Rattle.narrowing.proofs.Largest.{largest_of_part, largest-all}
+use Rattle.narrowing.proofs.Written.{written_next}
 use Rattle.narrowing.proofs.keep_largest.Goals as goal
-
--- every candidate has a flag
-pub largest_rank-largest-requires : goal.largest_rank-largest-requires
-largest_rank-largest-requires c = omega (arith, c.power-n.ensures, few_candidates c.args.m c.requires.at_most_12)
-
-pub loop-k-init : goal.loop-k-init
-loop-k-init c = (omega arith, written_none _ _ _)
-
-pub bounds-ranks-k : goal.bounds-ranks-k
-bounds-ranks-k c = omega (arith, c.power-n.ensures, few_candidates c.args.m c.requires.at_most_12)
-
-pub bounds-kept-k : goal.bounds-kept-k
-bounds-kept-k c = omega (arith, c.power-n.ensures, few_candidates c.args.m c.requires.at_most_12)
 
 pub loop-k-preserved : goal.loop-k-preserved
 loop-k-preserved c =
-    (omega arith, written_next _ _ _ _ (omega (arith, c.power-n.ensures, few_candidates c.args.m c.requires.at_most_12)) refl c.loop-k.invariant.1)
+    let long : length (take c.count_candidates-n.result c.args.firsts.ranks) ≤ 2048 = omega (arith, length-take-le c.count_candidates-n.result c.args.firsts.ranks) in
+    written_next _ _ _ _ (omega arith) refl c.loop-k.invariant
 
 pub returns : goal.returns
 returns c =
-    let all = c.power-n.ensures in
-    let top = subst (λ (n : ℕ). LargestBelow c.args.firsts.ranks n c.largest_rank-largest.result) all c.largest_rank-largest.ensures in
-    record { each = λ k h. c.loop-k.invariant.1.done k (omega (arith, all, c.loop-k-test.false)) ∙ largest-all _ top k }
+    let all = c.count_candidates-n.ensures.0 in
+    let ranks = c.args.firsts.ranks in
+    let largest = c.largest_rank-largest.result in
+    let top = subst (λ (n : ℕ). LargestBelow ranks n largest) all (largest_of_part ranks (omega arith) c.largest_rank-largest.ensures) in
+    let long : length (take c.count_candidates-n.result ranks) ≡ c.count_candidates-n.result = length-take-le c.count_candidates-n.result ranks (omega arith) in
+    record {
+      each = λ k h.
+          c.loop-k.invariant.done k (omega arith) ∙ ap (leb largest) (get_or-take c.count_candidates-n.result ranks k 0 (omega arith)) ∙ largest-all _ top k;
+    }

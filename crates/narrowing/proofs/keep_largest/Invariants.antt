@@ -1,13 +1,9 @@
 -- The invariant: the flags before k are up where the rank is the largest.
 use mathlib.Core.Bool.{false}
-use Prim.Native.Nat.{◌-◌, ◌≤◌}
 use lib.Dec.{leb}
 use lib.ListN.{get_or}
 use Rattle.narrowing.proofs.Written.{Written}
 use Rattle.narrowing.proofs.keep_largest.Given as goal
 
 abbrev pub invariant-loop-k : goal.invariant-loop-k
-invariant-loop-k l = (l.k ≤ l.n) × Written false (λ j. leb l.largest (get_or l.ranks j 0)) 2048 l.kept l.k
-
-abbrev pub decreases-loop-k : goal.decreases-loop-k
-decreases-loop-k l = l.n - l.k
+invariant-loop-k l = Written false (λ j. leb l.largest (get_or l.ranks j 0)) 2048 l.kept l.k

@@ -43,10 +43,14 @@ pub record Kept (m : ℕ) (f : Firsts) (r : List Bool) : Type 0 where
 
 -- ---- what is asked
 
--- the candidates of degree m over a table. Eight weights have room in 64 bits, so seven may be there already
-pub record ToAdd (bits entries m : ℕ) (table plain : List ℕ) (f : Firsts) : Type 0 where
-  pub readable : Readable bits entries table plain
+-- the candidates of degree m, over so many entries. Eight weights have room in 64 bits, so seven may be there already
+pub record ToAddFirsts (entries m : ℕ) (f : Firsts) : Type 0 where
   pub degree : CheckDegree m
   pub few : entries ≤ 63
   pub seven : f.scale ≤ 128 ^ 7
   pub below : (k : ℕ) → k < 2 ^ (m - 1) → get_or f.ranks k 0 < f.scale
+
+-- and a table that can be read
+pub record ToAdd (bits entries m : ℕ) (table plain : List ℕ) (f : Firsts) : Type 0 where
+  pub readable : Readable bits entries table plain
+  pub firsts : ToAddFirsts entries m f

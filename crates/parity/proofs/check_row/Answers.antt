@@ -1,10 +1,9 @@
-use mathlib.Core.Path.{◌≡◌, ap, ap₂, ◌∙◌}
+use mathlib.Core.Path.{ap, ap₂, ◌∙◌}
 use Prim.Native.Nat.{ℕ, ◌+◌, ◌*◌, ◌/◌, ◌%◌, ◌^◌}
 use native.Mathlib.Omega.{arith}
 use Rattle.poly.specs.Poly.{bit, register}
 use Rattle.poly.proofs.Remainder.{remainder_lt}
 use Rattle.poly.proofs.Sum.{mod2_lt}
-use Rattle.parity.specs.Model.Parity.{check_row}
 use Rattle.parity.proofs.Divided.{row_lt}
 use Rattle.parity.proofs.Rows.{row_none, row_next, power_first, power_next}
 use Rattle.parity.proofs.check_row.Goals as goal
@@ -13,7 +12,6 @@ pub loop-j-init : goal.loop-j-init
 loop-j-init c =
     let a = c.args in
     record {
-      within = omega arith;
       so_far = c.make-row.ensures ∙ row_none a.m a.p a.i;
       power-of-x = power_first a.m a.p c.requires.table.divisor.some_degree;
     }
@@ -35,15 +33,8 @@ loop-j-preserved c =
     let a = c.args in
     let at_x = l.invariant.power-of-x in
     record {
-      within = omega arith;
       so_far =
           c.with_bit-row.ensures ∙ ap₂ (λ (x y : ℕ). x / 2 ^ a.i % 2 * 2 ^ l.j + y) at_x l.invariant.so_far
           ∙ row_next l.j a.m a.p a.i;
       power-of-x = c.times_x-power.ensures ∙ ap (λ (x : ℕ). register a.m a.p x 0) at_x ∙ power_next l.j a.m a.p;
     }
-
-pub returns : goal.returns
-returns c =
-    let a = c.args in
-    let e : c.loop-j.j ≡ a.bits = omega arith in
-    c.loop-j.invariant.so_far ∙ ap (λ (x : ℕ). check_row x a.m a.p a.i) e

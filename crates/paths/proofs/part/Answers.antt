@@ -2,37 +2,31 @@
 use native.Mathlib.Omega.{arith}
 use Rattle.order.specs.Order.{of_weight}
 use Rattle.paths.proofs.Parts.{no_weight_0, no_count, starts_past, ends_past, fits}
-use borrow.Author.Rules.{rules}
 use Rattle.paths.proofs.part.Goals as goal
 
-pub returns-then-w-eq0 : goal.returns-then-w-eq0
-returns-then-w-eq0 c =
-    let a = c.args in
-    let f = no_weight_0 a.counts.now a.w a.table.now c.if-w-eq0.true in
-    record { result_value = f.0; refusal_after = f.1 }
+pub returns-then-w-eq0-clause-number : goal.returns-then-w-eq0-clause-number
+returns-then-w-eq0-clause-number c = no_weight_0 _ _ _ c.if-w-eq0.true
 
-pub returns-then-counts-w : goal.returns-then-counts-w
-returns-then-counts-w c =
-    let a = c.args in
-    let f = no_count a.counts.now a.w a.table.now (omega arith) (omega arith) in
-    record { result_value = f.0; refusal_after = f.1 }
+pub returns-then-counts-w-clause-number : goal.returns-then-counts-w-clause-number
+returns-then-counts-w-clause-number c = let a = c.args in no_count a.counts.now a.w a.table.now (omega arith) (omega arith)
 
-pub returns-then-limit-before : goal.returns-then-limit-before
-returns-then-limit-before c =
-    let a = c.args in
-    let f = starts_past a.counts.now a.w a.table.now (omega arith) (omega arith) _ c.paths_to-before.ensures (omega arith) in
-    record { result_value = f.0; refusal_after = f.1 }
+pub returns-in_default-clause-number : goal.returns-in_default-clause-number
+returns-in_default-clause-number c = let a = c.args in starts_past a.counts.now a.w a.table.now (omega arith) (omega arith) c.in_default.ensures
 
-pub returns-then-limit-before-2 : goal.returns-then-limit-before-2
+pub returns-then-here-limit-clause-number : goal.returns-then-here-limit-clause-number
 unfolding of_weight
-returns-then-limit-before-2 c =
+returns-then-here-limit-clause-number c =
     let a = c.args in
-    let f = ends_past a.counts.now a.w a.table.now (omega arith) (omega arith) _ c.paths_to-before.ensures (omega arith) (omega arith) in
-    record { result_value = f.0; refusal_after = f.1 }
+    (fits a.counts.now a.w a.table.now (omega arith) (omega arith) _ c.in-Some.ensures (omega arith)).1
 
-pub returns : goal.returns
+pub returns-then-here-limit-clause-words : goal.returns-then-here-limit-clause-words
 unfolding of_weight
-returns c =
+returns-then-here-limit-clause-words c =
     let a = c.args in
-    let f = fits a.counts.now a.w a.table.now (omega arith) (omega arith) _ c.paths_to-before.ensures (omega arith) (omega arith) in
-    record { result_value = f.0; refusal_after = f.1 }
+    (fits a.counts.now a.w a.table.now (omega arith) (omega arith) _ c.in-Some.ensures (omega arith)).0
+
+pub returns-else-here-limit-clause-number : goal.returns-else-here-limit-clause-number
+unfolding of_weight
+returns-else-here-limit-clause-number c =
+    let a = c.args in
+    ends_past a.counts.now a.w a.table.now (omega arith) (omega arith) _ c.in-Some.ensures (omega arith)

@@ -1,19 +1,13 @@
 -- The invariant: the sum so far, at most the limit.
 use mathlib.Core.Path.{◌≡◌}
 use mathlib.Core.List.{List}
-use Prim.Native.Nat.{ℕ, ◌-◌, ◌≤◌, zero-le}
-use native.Mathlib.Omega.{arith}
+use Prim.Native.Nat.{ℕ, ◌≤◌}
 use Rattle.paths.specs.Part.{paths_to}
-use Rattle.paths.proofs.Parts.{sum_none, sum_more, sum_past, sum-all}
 use Rattle.paths.proofs.paths_to.Given as goal
 
-pub record Summing (counts : List ℕ) (w limit total k : ℕ) : Type 0 where
-  pub within : k ≤ w
+pub record Summing (counts : List ℕ) (limit total k : ℕ) : Type 0 where
   pub summed : total ≡ paths_to counts k
   pub small : total ≤ limit
 
-abbrev pub invariant-loop-k : goal.invariant-loop-k
-invariant-loop-k l = Summing l.counts l.w l.limit l.total l.k
-
-abbrev pub decreases-loop-k : goal.decreases-loop-k
-decreases-loop-k l = l.w - l.k
+abbrev pub invariant-loop-count : goal.invariant-loop-count
+invariant-loop-count l = Summing l.counts l.limit l.total l.count-index

@@ -1,19 +1,15 @@
 -- The row of an order that was read, or the refusal of a record.
+use mathlib.Core.Path.{ap, ◌∙◌}
+use Rattle.text.specs.Text.{refusal_text}
 use Rattle.print.proofs.Read.{read_refused, read_accepted}
 use Rattle.print.proofs.Shown.{as_text}
 use Rattle.print.proofs.print.Goals as goal
 
-pub returns-then-reading-ne0 : goal.returns-then-reading-ne0
-returns-then-reading-ne0 c =
-    let refused = c in
-    as_text (read_refused _ _ refused.read_order-reading.ensures refused.if-reading-ne0.true) c.lay_refusal.ensures
-
 pub print_order-requires : goal.print_order-requires
-print_order-requires c =
-    let read = c in
-    ((read_accepted _ _ read.read_order-reading.ensures read.if-reading-ne0.false).0, read.requires)
+print_order-requires c = ((read_accepted _ _ c.in-Ok.ensures).0, c.requires)
 
-pub returns : goal.returns
-returns c =
-    let read = c in
-    as_text (read_accepted _ _ read.read_order-reading.ensures read.if-reading-ne0.false).1 c.print_order.ensures
+pub returns-in-Ok : goal.returns-in-Ok
+returns-in-Ok c = as_text (read_accepted _ _ c.in-Ok.ensures).1 c.print_order.ensures
+
+pub returns-in-Err : goal.returns-in-Err
+returns-in-Err c = as_text (ap refusal_text c.from.ensures ∙ read_refused _ _ c.in-Err.ensures) c.lay_refusal.ensures

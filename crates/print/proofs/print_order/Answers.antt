@@ -13,7 +13,7 @@ search_paths-a-requires c = let s = c in none_asked s.args.o s.requires.0 63 63 
 pub print_answer-requires : goal.print_answer-requires
 print_answer-requires c =
     let s = c in
-    row_room s.args.o s.requires.0 _ _ _ (omega arith) (omega arith) s.requires.1
+    (row_room s.args.o s.requires.0 _ _ (omega arith) (omega arith), s.requires.1)
 
 pub returns : goal.returns
 unfolding lent work_size

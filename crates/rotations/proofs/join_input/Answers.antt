@@ -1,12 +1,8 @@
 -- The input as it is, across both halves, or in the high half alone.
 use native.Mathlib.Omega.{arith}
-use borrow.Author.Rules.{rules}
 use Rattle.poly.proofs.Shifts.{up_high_fits}
-use Rattle.rotations.proofs.Joining.{joined-first, low_fits, joined_low, above_fits, joined_above}
+use Rattle.rotations.proofs.Joining.{low_fits, joined_low, above_fits, joined_above}
 use Rattle.rotations.proofs.join_input.Goals as goal
-
-pub returns-then-place-eq0 : goal.returns-then-place-eq0
-returns-then-place-eq0 c = joined-first _ _ _ _ _ c.if-place-eq0.true c.requires.below
 
 pub overflow_add-result : goal.overflow_add-result
 overflow_add-result c =

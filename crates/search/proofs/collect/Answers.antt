@@ -8,8 +8,8 @@ use Rattle.search.proofs.Plans.{own_told, own_sound}
 use Rattle.search.proofs.collect.Goals as goal
 
 pub call-requires : goal.call-requires
-call-requires c = own_sound and_threshold J.Collect c.args.order c.collecting-plan.result c.collecting-plan.ensures (le_refl 2) (le_refl 128) refl tt
+call-requires c = own_sound and_threshold J.Collect _ c.of_own_length-plan.result c.of_own_length-plan.ensures.call (le_refl 2) (le_refl 128) refl tt
 
 pub returns : goal.returns
 unfolding collect_call
-returns c = own_told and_threshold J.Collect c.args.order c.collecting-plan.result c.collecting-plan.ensures (λ x. (x.0, event_tables x.1.events x.1.work)) _ c.call.ensures
+returns c = own_told and_threshold J.Collect _ c.of_own_length-plan.result c.of_own_length-plan.ensures.call (λ x. (x.0, event_tables x.1.events x.1.work)) _ c.call.ensures

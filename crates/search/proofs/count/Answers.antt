@@ -8,8 +8,8 @@ use Rattle.search.proofs.Plans.{own_told, own_sound}
 use Rattle.search.proofs.count.Goals as goal
 
 pub call-requires : goal.call-requires
-call-requires c = own_sound everything (J.Count c.args.p) c.args.order c.counting-plan.result c.counting-plan.ensures (le_refl 2) (le_refl 128) refl refl
+call-requires c = own_sound everything (J.Count c.args.p) _ c.of_own_length-plan.result c.of_own_length-plan.ensures.call (le_refl 2) (le_refl 128) refl refl
 
 pub returns : goal.returns
 unfolding count_call
-returns c = own_told everything (J.Count c.args.p) c.args.order c.counting-plan.result c.counting-plan.ensures (λ x. x) _ c.call.ensures
+returns c = own_told everything (J.Count c.args.p) _ c.of_own_length-plan.result c.of_own_length-plan.ensures.call (λ x. x) _ c.call.ensures

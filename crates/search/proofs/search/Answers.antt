@@ -8,8 +8,8 @@ use Rattle.search.proofs.Plans.{own_told, own_sound}
 use Rattle.search.proofs.search.Goals as goal
 
 pub call-requires : goal.call-requires
-call-requires c = own_sound everything J.Choose c.args.order c.choosing-plan.result c.choosing-plan.ensures (le_refl 2) (le_refl 128) refl refl
+call-requires c = own_sound everything J.Choose _ c.choosing-plan.result c.choosing-plan.ensures.call (le_refl 2) (le_refl 128) refl refl
 
 pub returns : goal.returns
 unfolding search_call
-returns c = own_told everything J.Choose c.args.order c.choosing-plan.result c.choosing-plan.ensures (λ x. x) _ c.call.ensures
+returns c = own_told everything J.Choose _ c.choosing-plan.result c.choosing-plan.ensures.call (λ x. x) _ c.call.ensures

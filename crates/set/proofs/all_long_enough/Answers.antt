@@ -1,23 +1,13 @@
-use Prim.Native.Nat.{zero-le}
-use native.Mathlib.Omega.{arith}
-use mathlib.Core.Path.{refl, sym, ◌∙◌}
-use Rattle.lists.proofs.Scan.{all_end, all_fails, all_goes_on}
+use mathlib.Core.Path.{◌∙◌}
+use Rattle.std.proofs.Common.{ℕ, refl, rules}
+use Rattle.std.proofs.lemmas.Iterator.{YieldsList-from_slice}
+use Rattle.std.proofs.lemmas.Iterator.Search.{all_from_yields_List}
+use Rattle.order.specs.Questions.{from_to, longest_word}
+use Rattle.order.proofs.Answers.{all_same}
 use Rattle.set.proofs.all_long_enough.Goals as goal
 
-pub loop-i-init : goal.loop-i-init
-loop-i-init c = (zero-le, refl)
-
-pub returns-then-not-from_to : goal.returns-then-not-from_to
-returns-then-not-from_to c =
-    let gs = c.args.lengths.now in
-    let l = c.loop-i in
-    sym (l.invariant.1 ∙ all_fails _ gs 0 l.i (omega arith) (sym c.from_to.ensures ∙ c.if-not-from_to.true))
-
-pub loop-i-preserved : goal.loop-i-preserved
-loop-i-preserved c =
-    let gs = c.args.lengths.now in
-    let l = c.loop-i in
-    (omega arith, l.invariant.1 ∙ all_goes_on _ gs 0 l.i (omega arith) (sym c.from_to.ensures ∙ c.if-not-from_to.false))
-
 pub returns : goal.returns
-returns c = let gs = c.args.lengths.now in let l = c.loop-i in sym (l.invariant.1 ∙ all_end _ gs 0 l.i (omega arith))
+returns c =
+    let test = λ (bits : ℕ). from_to c.args.v longest_word bits in
+    all_from_yields_List test _ _ _ c.all.ensures.ran (YieldsList-from_slice c.args.lengths.now cc) (λ x b q k. search rules)
+    ∙ all_same test test (λ bits. refl) _

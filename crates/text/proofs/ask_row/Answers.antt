@@ -7,6 +7,7 @@ use borrow.Author.Tests.{le-leb, lt-leb}
 use Rattle.order.specs.Questions.{first_no, from_to, highest_version, room}
 use Rattle.order.proofs.FirstNo.{first_no_none, first_no_yes, first_no_no}
 use Rattle.text.specs.Calls.{text_size, row_questions}
+use Rattle.text.proofs.ask_row.Goals.{then-plain-entries-via-then-plain-entries, then-plain-entries-via-else-plain-entries+then-undetected-entries, then-plain-entries-via-else-plain-entries+else-undetected-entries+then-size-lt4096}
 use Rattle.text.proofs.ask_row.Goals as goal
 
 -- ---- the first no is among the questions without those that said yes
@@ -39,22 +40,22 @@ returns-then-not-from_to-3 c =
     ∙ first_no_no _ _ (sym c.from_to-3.ensures ∙ c.if-not-from_to-3.true))
 
 pub returns-then-plain-entries : goal.returns-then-plain-entries
-returns-then-plain-entries c =
-    sym (past_three _ _ _ _ _ _ (sym c.from_to.ensures ∙ c.if-not-from_to.false) (sym c.from_to-2.ensures ∙ c.if-not-from_to-2.false) (sym c.from_to-3.ensures ∙ c.if-not-from_to-3.false)
-    ∙ first_no_no _ _ (lt-leb _ _ (rw c.counted_weights-entries.ensures at c.if-plain-entries.true)))
-
-pub returns-then-undetected-entries : goal.returns-then-undetected-entries
-returns-then-undetected-entries c =
-    sym (past_plain _ _ _ _ _ _ (sym c.from_to.ensures ∙ c.if-not-from_to.false) (sym c.from_to-2.ensures ∙ c.if-not-from_to-2.false) (sym c.from_to-3.ensures ∙ c.if-not-from_to-3.false)
-    (rw c.counted_weights-entries.ensures at c.if-plain-entries.false)
-    ∙ first_no_no _ _ (lt-leb _ _ (rw c.counted_weights-entries.ensures at c.if-undetected-entries.true)))
-
-pub returns-then-size-lt4096 : goal.returns-then-size-lt4096
 unfolding text_size
-returns-then-size-lt4096 c =
-    sym (past_both _ _ _ _ _ _ (sym c.from_to.ensures ∙ c.if-not-from_to.false) (sym c.from_to-2.ensures ∙ c.if-not-from_to-2.false) (sym c.from_to-3.ensures ∙ c.if-not-from_to-3.false)
-    (rw c.counted_weights-entries.ensures at c.if-plain-entries.false) (rw c.counted_weights-entries.ensures at c.if-undetected-entries.false)
-    ∙ first_no_no _ _ (lt-leb _ _ c.if-size-lt4096.true))
+returns-then-plain-entries c =
+    let kind = sym c.from_to.ensures ∙ c.if-not-from_to.false in
+    let count = sym c.from_to-2.ensures ∙ c.if-not-from_to-2.false in
+    let threshold = sym c.from_to-3.ensures ∙ c.if-not-from_to-3.false in
+    elim c.then-plain-entries.branch [
+      | then-plain-entries-via-then-plain-entries w ↦
+          sym (past_three _ _ _ _ _ _ kind count threshold ∙ first_no_no _ _ (lt-leb _ _ (rw c.counted_weights-entries.ensures at w.if-plain-entries.true)))
+      | then-plain-entries-via-else-plain-entries+then-undetected-entries w ↦
+          sym (past_plain _ _ _ _ _ _ kind count threshold (rw c.counted_weights-entries.ensures at w.if-plain-entries.false)
+          ∙ first_no_no _ _ (lt-leb _ _ (rw c.counted_weights-entries.ensures at w.if-undetected-entries.true)))
+      | then-plain-entries-via-else-plain-entries+else-undetected-entries+then-size-lt4096 w ↦
+          sym (past_both _ _ _ _ _ _ kind count threshold (rw c.counted_weights-entries.ensures at w.if-plain-entries.false)
+          (rw c.counted_weights-entries.ensures at w.if-undetected-entries.false)
+          ∙ first_no_no _ _ (lt-leb _ _ w.if-size-lt4096.true))
+    ]
 
 pub returns : goal.returns
 unfolding text_size

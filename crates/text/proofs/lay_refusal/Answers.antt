@@ -5,4 +5,4 @@ use Rattle.text.proofs.lay_refusal.Goals as goal
 pub returns : goal.returns
 returns c =
     let clear = c in
-    laid_as _ _ clear.requires clear.clear_bytes.ensures c.put_refusal.ensures
+    laid_as _ _ clear.requires clear.clear.ensures c.put_refusal.ensures

@@ -11,16 +11,16 @@ use Rattle.text.proofs.put_row.Goals as goal
 
 pub put_counts-to_polynomial-requires : goal.put_counts-to_polynomial-requires
 put_counts-to_polynomial-requires c =
-    let counts = c.requires.counts in
+    let counts = c.args.text.accepted.counts in
     record { counts = rw c.counted_weights-entries.ensures counts; room = omega (arith, c.counted_weights-entries.ensures, counts) }
 
 pub returns : goal.returns
 unfolding wEVENTS wPATHS row_text order_in
 returns c =
-    let a = c.args in
+    let a = c.args.text in
     let entries = c.counted_weights-entries.ensures in
     let counted = put_as (ap (λ n. flat_map (count_line a.plain.now a.undetected.now) (up_from 1 n)) entries) c.put_counts-to_polynomial.ensures in
     let lines = joined counted c.put_polynomial.ensures in
     let all = joined c.put_order-to_events.ensures (joined c.put_line-to_paths.ensures (joined c.put_line-to_counts.ensures lines)) in
-    let counts = c.requires.counts in
+    let counts = c.args.text.accepted.counts in
     put_most 4096 all (omega (arith, all.short))

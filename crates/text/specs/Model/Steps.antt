@@ -5,10 +5,9 @@ use Rattle.lists.specs.Lists.{padded}
 use Rattle.lines.specs.Model.Steps.{Counts}
 
 -- a row of n generators: what questions 3, 7 and 10 let the call assume
-pub record RowAccepted (n d plain undetected size : ℕ) : Type 0 where
+pub record RowAccepted (n d plain undetected : ℕ) : Type 0 where
   pub at_most_4 : n ≤ 4
   pub counts : Counts (d - 1) plain undetected
-  pub bytes : 4096 ≤ size
 
 -- the text, with zeros after it, and where it ends
 pub record Laid (text before after : List ℕ) (end : ℕ) : Type 0 where

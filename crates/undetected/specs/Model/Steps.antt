@@ -44,25 +44,22 @@ pub record Readable (bits entries : ℕ) (table plain : List ℕ) : Type 0 where
 -- ---- what is asked
 
 -- the words from one place to before another, by a polynomial's parity checks
-pub record ToCountBetween (table : List ℕ) (from to m : ℕ) : Type 0 where
+pub record ToCountBetween (table : List ℕ) (from to : ℕ) : Type 0 where
   pub ordered : from ≤ to
   pub inside : 2 * to ≤ length table
-  pub at_most_12 : m ≤ 12
 
 -- the words of each entry that p divides, with a list that takes the counts
-pub record ToCount (bits entries m p : ℕ) (table plain undetected : List ℕ) : Type 0 where
-  pub readable : Readable bits entries table plain
+pub record ToCount (entries m p : ℕ) (undetected : List ℕ) : Type 0 where
   pub divisor : Divisor m p
   pub counts : entries ≤ length undetected
 
 -- from entry `first` on, whose words begin at place `start`
-pub record ToCountFrom (bits entries m p first start : ℕ) (table plain undetected : List ℕ) : Type 0 where
-  pub each : ToCount bits entries m p table plain undetected
+pub record ToCountFrom (entries m p first start : ℕ) (plain undetected : List ℕ) : Type 0 where
+  pub each : ToCount entries m p undetected
   pub begun : first ≤ entries
   pub placed : start ≡ paths_to plain first
 
 -- the first weight of which p divides a word: weights stay below 64
-pub record ToFindFirst (bits entries m p : ℕ) (table plain : List ℕ) : Type 0 where
-  pub readable : Readable bits entries table plain
+pub record ToFindFirst (entries m p : ℕ) : Type 0 where
   pub divisor : Divisor m p
   pub few : entries ≤ 63

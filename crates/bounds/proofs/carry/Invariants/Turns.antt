@@ -1,31 +1,13 @@
 -- What `carried` comes to at first, with one turn more, and at the end.
 -- Assumes nothing.
-use Prim.Native.Nat.{ℕ, suc, ◌+◌, ◌-◌, ◌≤◌, ◌<◌, max}
+use Prim.Native.Nat.{ℕ, suc, ◌+◌, ◌-◌, ◌<◌, max}
 use native.Mathlib.Omega.{arith}
 use mathlib.Core.Path.{◌≡◌, sym, ap, ap₂, ◌∙◌}
 use mathlib.Core.List.{List}
-use lib.ListN.{length, get_or, set}
+use lib.ListN.{get_or, set}
 use Rattle.bounds.specs.Model.Tables.{carried}
 
 module _ (ends starts n : ℕ) where
-  -- where the loop stands: the places from j on are left to carry
-  pub record Carrying (work₀ : List ℕ) (from : ℕ) (work : List ℕ) (at j : ℕ) : Type 0 where
-    pub reached : j ≤ n
-    pub size : length work ≡ length work₀
-    pub left : carried (ends + j) (starts + j) (n - j) at work ≡ carried ends starts n from work₀
-
-  pub carry_begin : (from : ℕ) (work : List ℕ)
-      → carried (ends + 0) (starts + 0) (n - 0) from work ≡ carried ends starts n from work
-  carry_begin from work =
-      ap₂ (λ (x y : ℕ). carried x y (n - 0) from work) (none ends) (none starts)
-      ∙ ap (λ (x : ℕ). carried ends starts x from work) (all_left n)
-    where
-      none : (x : ℕ) → x + 0 ≡ x
-      none x = omega arith
-
-      all_left : (x : ℕ) → x - 0 ≡ x
-      all_left x = omega arith
-
   pub carry_again : (j at next : ℕ) (work goal : List ℕ) → j < n → next ≡ max at (get_or work (ends + j) 0)
       → carried (ends + j) (starts + j) (n - j) at work ≡ goal → carried (ends + (j + 1)) (starts + (j + 1))
       (n - (j + 1)) next (set work (starts + j) at) ≡ goal

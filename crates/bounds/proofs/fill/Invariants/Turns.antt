@@ -4,7 +4,7 @@ use Prim.Native.Nat.{ℕ, suc, ◌+◌, ◌-◌, ◌≤◌, ◌<◌}
 use native.Mathlib.Omega.{arith}
 use mathlib.Core.Path.{◌≡◌, ap, ◌∙◌}
 use mathlib.Core.List.{List}
-use lib.ListN.{length, set}
+use lib.ListN.{set}
 use lib.Seq.{get_or-set_other}
 use Rattle.code.specs.Model.Steps.{most_steps}
 use Rattle.bounds.specs.Model.Places.{fill_place, bits_place}
@@ -12,17 +12,9 @@ use Rattle.bounds.specs.Model.Tables.{bits_at, least_sum, filled_from, filled, S
 
 -- where the loop stands: what is left to fill in, from step k on
 pub record Filling (work₀ : List ℕ) (bits : ℕ) (work : List ℕ) (k : ℕ) : Type 0 where
-  pub reached : k ≤ bits + 1
   pub few : bits ≤ most_steps
-  pub size : length work ≡ length work₀
   pub small : Small work
   pub left : filled_from (bits + 1 - k) k work ≡ filled_from bits 1 work₀
-
-pub fill_begin : (bits : ℕ) (work : List ℕ) → filled_from (bits + 1 - 1) 1 work ≡ filled_from bits 1 work
-fill_begin bits work = ap (λ (n : ℕ). filled_from n 1 work) (all_left bits)
-  where
-    all_left : (x : ℕ) → x + 1 - 1 ≡ x
-    all_left x = omega arith
 
 pub filled_is : (work last : List ℕ) → last ≡ filled_from (bits_at (set work fill_place 0)) 1 (set work fill_place 0)
     → last ≡ filled work

@@ -7,12 +7,6 @@ use mathlib.Core.List.{List}
 use Rattle.bounds.specs.Model.Places.{too_heavy}
 use Rattle.bounds.specs.Model.Tables.{least_at, fill_at, least_sum}
 
--- where the loop stands: the least weight of those that begin with a length below l
-pub record Summing (work : List ℕ) (k least l : ℕ) : Type 0 where
-  pub begun : 1 ≤ l
-  pub reached : l ≤ k + 1
-  pub so_far : least ≡ least_sum work k (l - 1)
-
 pub sum_begin : (work : List ℕ) (k : ℕ) → too_heavy ≡ least_sum work k (1 - 1)
 unfolding least_sum
 sum_begin work k = refl
@@ -30,9 +24,3 @@ sum_again work k l least r h e is =
 
     after : suc (l - 1) ≡ l + 1 - 1
     after = omega arith
-
-pub sum_end : (work : List ℕ) (k l least : ℕ) → l ≡ k + 1 → least ≡ least_sum work k (l - 1) → least ≡ least_sum work k k
-sum_end work k l least h e = e ∙ ap (least_sum work k) last
-  where
-    last : l - 1 ≡ k
-    last = omega arith

@@ -4,16 +4,9 @@ use Prim.Native.Nat.{ℕ, suc, ◌+◌, ◌-◌, ◌≤◌, ◌<◌}
 use native.Mathlib.Omega.{arith}
 use mathlib.Core.Path.{◌≡◌, ap, ◌∙◌}
 use mathlib.Core.List.{List}
-use lib.ListN.{length, set}
-use Rattle.bounds.specs.Model.Places.{length_count, too_heavy, least_place, length_end_place, end_place, area_size}
+use lib.ListN.{set}
+use Rattle.bounds.specs.Model.Places.{length_count, too_heavy, least_place, length_end_place, end_place}
 use Rattle.bounds.specs.Model.Tables.{reset_from, opened}
-
--- where the loop stands: the lengths from l on are left to make ready
-pub record Resetting (work₀ work : List ℕ) (l : ℕ) : Type 0 where
-  pub reached : l ≤ length_count
-  pub enough : area_size ≤ length work
-  pub size : length work ≡ length work₀
-  pub left : reset_from (length_count - l) l work ≡ reset_from length_count 0 work₀
 
 pub opened_is : (end : ℕ) (work last : List ℕ) → last ≡ reset_from length_count 0 (set work end_place end) → last ≡ opened end work
 unfolding opened

@@ -14,7 +14,7 @@ use Rattle.rotations.specs.Model.Put.{puts}
 use Rattle.rotations.proofs.Puts.{puts-append, length-puts, puts-place, puts_past, puts_none}
 use Rattle.bounds.specs.declared.Chain.{Chain}
 use Rattle.code.specs.Model.Steps.{most_steps}
-use Rattle.bounds.specs.Model.Tables.{start_at, end_at, bits_at, beginning, following, Small, ToFollow}
+use Rattle.bounds.specs.Model.Tables.{start_at, end_at, bits_at, beginning, following, ToFollow}
 use Rattle.bounds.proofs.Placed.{lt_or_ge}
 use Rattle.bounds.proofs.Looked.{beginning_bounds, beginning_skips, following_bounds, following_skips}
 use Rattle.chains.specs.Model.Chaining.{found, found_by, Joins, Near, ToChain, ToJoin}
@@ -84,9 +84,6 @@ module _ {table : List Event} {work paths : List ℕ} {at : ℕ} {begun : Chain}
       past : (m n : ℕ) → m ≡ n → p ≤ m / 2 + 1 → n / 2 < p → p ≡ m / 2 + 1
       past m n same a b = omega arith
 
-  pub asks_begin : Small work × (begun.steps ≤ most_steps)
-  asks_begin = (joins.ready.small, short)
-
   pub stands_first : {k : ℕ} → k ≡ beginning work at room begun → Stands k at paths
   stands_first is = rw is stands
     where
@@ -107,19 +104,9 @@ module _ {table : List Event} {work paths : List ℕ} {at : ℕ} {begun : Chain}
       }
 
   module _ (x : Stage) where
-    pub p_fits : length paths < 2 ^ 64 → x.p < 2 ^ 64
-    unfolding path_room
-    p_fits h = let e = x.stands.size in let n = x.stands.near in omega (arith, h, e, n)
-
-    pub k_fits : to < 2 ^ 64 → x.k < 2 ^ 64
-    k_fits h = let b = x.stands.below in omega (arith, b)
-
     module _ (inside : x.k < to) where
       abbrev e : Event
       e = get_or table x.k no_event
-
-      pub in_table : x.k < length table
-      in_table = let i = joins.inside in omega (arith, i)
 
       pub asks_join : {f : Event} → f ≡ e → ToJoin table work x.l x.p begun f
       asks_join is = record {
@@ -140,9 +127,15 @@ module _ {table : List Event} {work paths : List ℕ} {at : ℕ} {begun : Chain}
         next_fits = omega arith;
       }
 
-      -- after a turn: the table, the position and the next place, as the code has them
-      module _ {zs : List ℕ} {r k' : ℕ} (put : (zs, r) ≡ puts (found_by table work begun e) (x.l, x.p))
-          (is : k' ≡ following work r room begun e.length x.k) where
+      -- after a turn: the event read, the table, the position and the next place, as the code has them
+      module _ {f : Event} {zs : List ℕ} {r k' : ℕ} (read : f ≡ e) (joined : (zs, r) ≡ puts (found_by table work begun f) (x.l, x.p))
+          (followed : k' ≡ following work r room begun f.length x.k) where
+        put : (zs, r) ≡ puts (found_by table work begun e) (x.l, x.p)
+        put = rw read at joined
+
+        is : k' ≡ following work r room begun e.length x.k
+        is = rw read at followed
+
         turn_bounds : (x.k < k') × (k' ≤ to)
         turn_bounds =
             rw is (following_bounds table work from to joins.ready r room begun short x.k e.length

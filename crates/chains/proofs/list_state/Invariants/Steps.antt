@@ -21,12 +21,16 @@ pub record Bounds (table : List Event) (work : List ℕ) (i : ℕ) : Type 0 wher
   pub is_from : from ≡ first_of work i
   pub is_to : to ≡ state_end table i work
 
-pub ends_at : (table : List Event) (work : List ℕ) (i : ℕ) {f l bits t : ℕ} → f ≡ first_of work i → l ≡ first_of work (i + 1) → bits ≡ bits_at work
-    → t ≡ fitting_end table bits l (l - f) f → t ≡ state_end table i work
-unfolding state_end
-ends_at table work i {f} is_f is-l is-bits is =
-    is ∙ ap₂ (λ (x y : ℕ). fitting_end table x y (y - f) f) is-bits is-l
-    ∙ ap (λ (x : ℕ). fitting_end table (bits_at work) (first_of work (i + 1)) (first_of work (i + 1) - x) x) is_f
+module _ (table : List Event) (work : List ℕ) (i : ℕ) {f l bits t : ℕ} (is_f : f ≡ first_of work i) (is-l : l ≡ first_of work (i + 1))
+    (is-bits : bits ≡ bits_at work) (is : t ≡ fitting_end table bits l (l - f) f) where
+  pub ends_at : t ≡ state_end table i work
+  unfolding state_end
+  ends_at =
+      is ∙ ap₂ (λ (x y : ℕ). fitting_end table x y (y - f) f) is-bits is-l
+      ∙ ap (λ (x : ℕ). fitting_end table (bits_at work) (first_of work (i + 1)) (first_of work (i + 1) - x) x) is_f
+
+  abbrev pub bounds_are : Bounds table work i
+  bounds_are = record { from = f; to = t; is_from = is_f; is_to = ends_at }
 
 module _ {table : List Event} {work paths : List ℕ} {at i first w : ℕ} (ask : ToListState table work paths at i first w) where
   pub asks_fitting : {f l : ℕ} → f ≡ first_of work i → l ≡ first_of work (i + 1) → (l ≤ length table) × ((f ≤ l) × Segment table f l)

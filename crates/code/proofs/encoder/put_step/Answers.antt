@@ -1,5 +1,5 @@
 use mathlib.Core.Path.{refl, ap, ◌∙◌}
-use Prim.Native.Nat.{◌+◌, zero-le}
+use Prim.Native.Nat.{◌+◌}
 use native.Mathlib.Omega.{arith}
 use lib.ListN.{set, length-set}
 use Rattle.lists.proofs.Stores.{sets_map_more, sets_map-all}
@@ -7,7 +7,7 @@ use Rattle.code.specs.Trellis.{tapped}
 use Rattle.code.proofs.encoder.put_step.Goals as goal
 
 pub loop-i-init : goal.loop-i-init
-loop-i-init c = record { within = zero-le; same_size = refl; stored = refl }
+loop-i-init c = record { same_size = refl; stored = refl }
 
 pub loop-i-preserved : goal.loop-i-preserved
 loop-i-preserved c =
@@ -15,7 +15,6 @@ loop-i-preserved c =
     let a = c.args in
     let more = sets_map_more (tapped a.inputs) a.generators.now 0 a.output.now a.at l.i _ (omega arith) in
     record {
-      within = omega arith;
       same_size = length-set l.output (a.at + l.i) _ ∙ l.invariant.same_size;
       stored = ap (λ x. set x (a.at + l.i) c.parity.result) l.invariant.stored ∙ more c.parity.ensures;
     }

@@ -1,7 +1,7 @@
 -- The invariant: the window k steps on, and what these steps weigh.
 use mathlib.Core.Path.{◌≡◌}
 use mathlib.Core.List.{List}
-use Prim.Native.Nat.{ℕ, ◌-◌, ◌*◌, ◌≤◌}
+use Prim.Native.Nat.{ℕ, ◌*◌, ◌≤◌}
 use Rattle.lists.specs.Lists.{sum}
 use Rattle.poly.specs.Word.{number}
 use Rattle.code.specs.Model.Window.{Later}
@@ -10,13 +10,9 @@ use Rattle.code.proofs.Steps.{weighs}
 use Rattle.code.proofs.encoder.weigh_steps.Given as goal
 
 pub record Weighing (gs : List ℕ) (steps : ℕ) (w₀ w : Window) (total k : ℕ) : Type 0 where
-  pub within : k ≤ steps
   pub window : Later w₀ k w
   pub small : total ≤ 4 * k
   pub summed : total ≡ sum k (weighs gs w₀.memory steps (number w₀.rest))
 
-abbrev pub invariant-loop-k : goal.invariant-loop-k
-invariant-loop-k l = Weighing l.generators l.steps l.initial.window l.window l.total l.k
-
-abbrev pub decreases-loop-k : goal.decreases-loop-k
-decreases-loop-k l = l.steps - l.k
+abbrev pub invariant-loop : goal.invariant-loop
+invariant-loop l = Weighing l.generators l.end l.initial.window l.window l.total l.counter

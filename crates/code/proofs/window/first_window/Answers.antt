@@ -10,11 +10,8 @@ returns-then-is_terminated c =
     let kind = c.is_terminated.ensures in
     record { memory = refl; state = sym (begins_terminated _ _ (sym kind ∙ c.if-is_terminated.true)); rest = refl }
 
-pub last_state-state-requires : goal.last_state-state-requires
-last_state-state-requires c = c.requires
-
-pub returns : goal.returns
+pub returns-else-is_terminated : goal.returns-else-is_terminated
 unfolding order_in
-returns c =
+returns-else-is_terminated c =
     let kind = c.is_terminated.ensures in
     record { memory = refl; state = c.last_state-state.ensures ∙ sym (begins_tail_biting _ _ (sym kind ∙ c.if-is_terminated.false)); rest = refl }

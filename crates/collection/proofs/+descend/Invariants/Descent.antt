@@ -2,19 +2,24 @@
 --     Stage      before a turn.        Standing     where the two ways of a turn meet, at the node that is followed
 --     standing_first     before the loop.        met_both, met_one     a turn later, where both nodes before go on, or at most one does
 -- Assumes nothing.
-use Prim.Native.Nat.{ℕ, ◌+◌, ◌<◌, ◌≤◌, ◌^◌}
+use Prim.Native.Nat.{ℕ, ◌+◌, ◌<◌, ◌≤◌}
 use native.Mathlib.Omega.{arith}
-use mathlib.Core.Path.{◌≡◌, refl, sym, ◌∙◌, subst}
+use mathlib.Core.Path.{◌≡◌, refl, sym, ap, ◌∙◌, subst}
 use mathlib.Core.List.{List}
+use Rattle.std.specs.Prelude.{None, Some, true, false}
 use lib.Dec.{lit<}
 use lib.ListN.{length, set}
 use Rattle.events.specs.declared.Event.{Event}
+use Rattle.collection.specs.declared.Branches.{Branches}
+use Rattle.collection.specs.declared.Branches.TheVariants as B
+use Rattle.collection.specs.declared.Decision.{Decision}
+use Rattle.collection.specs.declared.Decision.TheVariants as D
 use Rattle.collection.specs.declared.Node.{Node}
 use Rattle.code.specs.Model.Steps.{most_steps}
 use Rattle.needed.specs.Model.Tables.{length_at, Tables}
-use Rattle.collection.specs.Model.Backward.{earlier, finished, found, appends, cut, event, on, decided, both, ways_on, last_of, decided_last, Walkable, Back, TwoBack, Descent}
-use Rattle.collection.proofs.Nodes.{earlier_node, earlier_shorter, last_before, last_has, ways_both, ways_one, ways_last, last_decided}
-use Rattle.collection.proofs.Appends.{Kept, appends_kept, node_longer, node_both, node_one, node_open, node_end, node_ends}
+use Rattle.collection.specs.Model.Backward.{goes_on, earlier, finished, found, appends, decided, ways_on, last_of, decided_last, Walkable, Back, TwoBack, Descent}
+use Rattle.collection.proofs.Nodes.{earlier_node, earlier_shorter, last_before, last_has, ways_both, ways_one, last_found, ways_none, decided_goes}
+use Rattle.collection.proofs.Appends.{Kept, appends_kept, node_longer, node_both, node_one, node_open, node_cut, node_end, node_ends}
 
 -- a call: the work area, the node, the table and the position in it
 pub record Call : Type 0 where
@@ -36,7 +41,7 @@ module _ (c : Call) where
     pub shorter : e.left ≤ c.node.left
     pub same : appends (found ys e) (zs, p) ≡ appends (found ys c.node) (c.l, c.at)
 
-  pub record Stage (p : ℕ) (e : Node) (zs : List Event) (what : ℕ) : Type 0 where
+  pub record Stage (p : ℕ) (e : Node) (zs : List Event) (what : Decision) : Type 0 where
     pub tables : Tables ys
     pub short : length_at ys ≤ most_steps
     pub is_what : what ≡ decided ys p n e
@@ -45,15 +50,15 @@ module _ (c : Call) where
   pub standing_first : Walkable c.node → c.at ≤ n + 1 → Standing c.at c.node c.l
   standing_first is near = record { kept = record { size = refl; near = near }; walkable = is; shorter = omega arith; same = refl }
 
-  module _ {p : ℕ} {e : Node} {zs : List Event} {what : ℕ} (x : Stage p e zs what) where
+  module _ {p : ℕ} {e : Node} {zs : List Event} {what : Decision} (x : Stage p e zs what) where
     -- ---- a turn
 
-    module _ (more : what ≡ on) where
-      open_here : decided ys p n e ≡ cut → ⊥
-      open_here z = let is = x.is_what in absurd (omega arith)
+    module _ (more : what ≡ D.On) where
+      open_here : decided ys p n e ≡ D.Cut → ⊥
+      open_here z = cc (x.is_what)
 
-      no_end : decided ys p n e ≡ event → ⊥
-      no_end z = let is = x.is_what in absurd (omega arith)
+      no_end : decided ys p n e ≡ D.Event → ⊥
+      no_end z = cc (x.is_what)
 
       some_left : 0 < e.left
       some_left = node_longer ys zs p n e x.stands.kept.size open_here no_end
@@ -99,34 +104,40 @@ module _ (c : Call) where
             let before = x.stands.shorter in
             omega arith
 
-        module _ (ways : ℕ) (is : ways ≡ ways_on ys low high) where
+        module _ (ways : Branches) (is : ways ≡ ways_on ys low high) where
           is_ways : ways ≡ ways_on ys (earlier ys e 0) (earlier ys e 1)
           is_ways = cc
 
-          pub met_both : ways ≡ both → (zs' : List Event) (r : ℕ) → (zs', r) ≡ appends (found ys low) (zs, p) → Standing r (last_before ys e) zs'
+          pub met_both : ways ≡ B.Both → (zs' : List Event) (r : ℕ) → (zs', r) ≡ appends (found ys low) (zs, p) → Standing r (last_before ys e) zs'
           met_both b zs' r there =
               let first : (zs', r) ≡ appends (found ys (earlier ys e 0)) (zs, p) = cc in
               let two = ways_both ys (earlier ys e 0) (earlier ys e 1) (cc) in
               subst (λ (u : List Event × ℕ). Standing u.1 (last_before ys e) u.0) (sym first)
               (standing_at (appends_kept (found ys (earlier ys e 0)) n (zs, p) x.stands.kept) (node_both ys zs p n e x.stands.kept.size open_here no_end two))
 
-          pub met_one : (ways ≡ both → ⊥) → Standing p (last_before ys e) zs
+          pub met_one : (ways ≡ B.Both → ⊥) → Standing p (last_before ys e) zs
           met_one b =
               let one = ways_one ys (earlier ys e 0) (earlier ys e 1) (λ z. b (is_ways ∙ z)) in
               standing_at x.stands.kept (node_one ys zs p n e x.stands.kept.size open_here no_end one)
 
-          module _ (last : Node) (is_last : last ≡ last_of ways low high) where
+          last_same : last_of ways low high ≡ last_of (ways_on ys (earlier ys e 0) (earlier ys e 1)) (earlier ys e 0) (earlier ys e 1)
+          last_same = cc is_ways
+
+          module _ (last : Node) (is_last : Some last ≡ last_of ways low high) where
+            goes : (last ≡ last_before ys e) × (goes_on ys (last_before ys e) ≡ true)
+            goes = last_found ys (earlier ys e 0) (earlier ys e 1) last (sym (is_last ∙ last_same))
+
             last_is : last ≡ last_before ys e
-            last_is = cc (is_ways, ways_last ys (earlier ys e 0) (earlier ys e 1))
+            last_is = goes.0
 
             pub last_left : last.left < e.left
             last_left = rw last_is last_shorter
 
-            decided_there : (at room then : ℕ) → then ≡ decided_last ways at room last.left → then ≡ decided ys at room last
-            decided_there at room then there = cc (is_ways, last_is, last_decided ys (earlier ys e 0) (earlier ys e 1) at room)
+            decided_there : (at room : ℕ) (then : Decision) → then ≡ decided_last at room last.left → then ≡ decided ys at room last
+            decided_there at room then there = there ∙ decided_goes ys at room last true (ap (goes_on ys) last_is ∙ goes.1)
 
             -- the next turn, at the last that goes on
-            pub stage-next : (p' : ℕ) (zs' : List Event) (then : ℕ) → Standing p' (last_before ys e) zs' → then ≡ decided_last ways p' n last.left → Stage p' last zs' then
+            pub stage-next : (p' : ℕ) (zs' : List Event) (then : Decision) → Standing p' (last_before ys e) zs' → then ≡ decided_last p' n last.left → Stage p' last zs' then
             stage-next p' zs' then stands there = record {
               tables = x.tables;
               short = x.short;
@@ -134,14 +145,22 @@ module _ (c : Call) where
               stands = subst (λ (y : Node). Standing p' y zs') (sym last_is) stands;
             }
 
+          -- neither goes on: nothing is left to be appended
+          pub none_left : None ≡ last_of ways low high → (p' : ℕ) (zs' : List Event) → Standing p' (last_before ys e) zs'
+              → (zs', p') ≡ appends (found ys c.node) (c.l, c.at)
+          none_left none p' zs' stands =
+              let last : Node = last_before ys e in
+              let no : goes_on ys last ≡ false = ways_none ys (earlier ys e 0) (earlier ys e 1) (sym (none ∙ last_same)) in
+              node_cut ys zs' p' n last stands.kept.size (sym (decided_goes ys p' n last false no)) ∙ stands.same
+
     -- ---- the end
 
-    pub left_over : (what ≡ event → ⊥) → (what ≡ on → ⊥) → (zs, p) ≡ appends (found ys c.node) (c.l, c.at)
+    pub left_over : (what ≡ D.Event → ⊥) → (what ≡ D.On → ⊥) → (zs, p) ≡ appends (found ys c.node) (c.l, c.at)
     left_over no-event no_more = node_ends ys zs p n e x.stands.kept.size (λ z. no-event (x.is_what ∙ z)) (λ z. no_more (x.is_what ∙ z)) ∙ x.stands.same
 
-    module _ (last : what ≡ event) where
-      still_open : decided ys p n e ≡ cut → ⊥
-      still_open z = let is = x.is_what in absurd (omega arith)
+    module _ (last : what ≡ D.Event) where
+      still_open : decided ys p n e ≡ D.Cut → ⊥
+      still_open z = cc (x.is_what)
 
       pub inside : p ≤ n
       inside = node_open ys zs p n e x.stands.kept.size still_open
@@ -150,5 +169,5 @@ module _ (c : Call) where
           → (zs', r) ≡ appends (found ys c.node) (c.l, c.at)
       one_more made is zs' r stored counted =
           let here : ◌≡◌ {A = List Event × ℕ} (zs', r) (set zs p (finished ys e), p + 1) = cc in
-          let last-here : decided ys p n e ≡ event = sym x.is_what ∙ last in
+          let last-here : decided ys p n e ≡ D.Event = sym x.is_what ∙ last in
           here ∙ node_end ys zs p n e x.stands.kept.size still_open last-here ∙ x.stands.same

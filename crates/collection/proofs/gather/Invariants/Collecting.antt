@@ -5,12 +5,13 @@ use Prim.Native.Nat.{ℕ, suc, ◌+◌, ◌-◌, ◌*◌, ◌/◌, ◌%◌, ◌^
 use native.Mathlib.Nat.{mod-lt, div-lt_iff_lt-mul, div-add-mod', mod-eq_of_lt, suc-mul, mul-mod_left}
 use native.Mathlib.Decide.{ℕ_discrete, dec_le}
 use native.Mathlib.Omega.{arith}
-use mathlib.Core.Path.{◌≡◌, sym, ap, ap₂, ◌∙◌, subst}
+use mathlib.Core.Path.{◌≡◌, refl, sym, ap, ap₂, ◌∙◌, subst}
 use mathlib.Core.Logic.{◌≢◌}
 use mathlib.Core.List.{List, ◌++◌, map}
 use lib.Arith.{digits_div}
 use lib.Pow.{pow_mono}
 use lib.ListN.{length, replicate, length-replicate, length-map}
+use Rattle.std.specs.Prelude.{Ok, Err}
 use Rattle.lists.specs.Lists.{padded, cleared}
 use Rattle.code.specs.Links.{steps_of, event_states}
 use Rattle.code.specs.Model.Steps.{most_steps}
@@ -18,6 +19,7 @@ use Rattle.code.proofs.Links.{few_steps, some_steps, states_le}
 use Rattle.order.specs.Order.{Order}
 use Rattle.order.specs.Questions.{work_size}
 use Rattle.order.specs.Model.Accepted.{Accepted}
+use Rattle.order.specs.declared.refusal.Refusal.TheVariants as R
 use Rattle.events.specs.declared.Event.{Event}
 use Rattle.events.specs.Events.{entry, events, no_event, event_table}
 use Rattle.needed.specs.Model.Tables.{row_words, tables_end, length_at, prepared, turned, Tables}
@@ -109,7 +111,6 @@ module _ (j : Job) where
   covers = omega arith
 
   pub record Standing (k at : ℕ) (zs : List Event) (us : List ℕ) : Type 0 where
-    pub at_most : k ≤ last
     pub kept : Kept nt (zs, at)
     pub work_size_is : length us ≡ nw
     pub ready : Ready gs v d us
@@ -119,7 +120,6 @@ module _ (j : Job) where
   pub standing_first : (work : List ℕ) → length work ≡ nw → Standing 0 0 (replicate nt no_event) (prepared gs v d work)
   standing_first work size =
       record {
-        at_most = omega arith;
         kept = record { size = length-replicate nt no_event; near = omega arith };
         work_size_is = length-prepared gs v d work ∙ size;
         ready = prepared_ready gs v d work (subst (λ (n : ℕ). tables_end ≤ n) (sym size) (tables_inside j.enough));
@@ -170,7 +170,6 @@ module _ (j : Job) where
 
       pub standing_next : Standing (k + 1) next_table.1 next_table.0 next_work
       standing_next = record {
-        at_most = omega arith;
         kept = appends_kept (found next_work (first steps k)) nt (zs, at) s.kept;
         work_size_is = work_turned;
         ready = turned_well.ready;
@@ -257,6 +256,11 @@ module _ (o : Order) (table : List Event) (zs : List Event) (at : ℕ) (e : (zs,
         absurd (omega arith)
   ]
 
-  pub gathered : (work left : List ℕ) → left ≡ replicate (length work) 0 → Gathered o table zs work left at
-  unfolding cleared
-  gathered work left zeros = record { inside = all_listed; past = too_many; zeros = zeros }
+  module _ (work left : List ℕ) (zeros : left ≡ replicate (length work) 0) where
+    pub all_gathered : at ≤ length table → Gathered o table zs work left (Ok at)
+    unfolding cleared
+    all_gathered inside = record { inside = all_listed inside; past = tt; zeros = zeros }
+
+    pub past_gathered : length table < at → Gathered o table zs work left (Err R.TooManyEvents)
+    unfolding cleared
+    past_gathered past = record { inside = tt; past = (refl, too_many past); zeros = zeros }

@@ -1,6 +1,5 @@
 -- The states, times the steps: at most 256 and most_steps.
 use native.Mathlib.Omega.{arith}
-use mathlib.Core.Path.{ap₂}
 use native.Mathlib.Nat.{mul-le-mul_right}
 use Prim.Native.Nat.{ℕ, ◌*◌, ◌^◌, ◌≤◌, ◌<◌}
 use lib.Pow.{pow_mono}
@@ -14,22 +13,13 @@ product_fits a n h g =
     let first : a * n ≤ 256 * n = mul-le-mul_right n h in
     omega arith
 
-pub event_states-states-requires : goal.event_states-states-requires
-event_states-states-requires c = c.requires
-
-pub steps_of-steps-requires : goal.steps_of-steps-requires
-steps_of-steps-requires c = c.requires
-
 pub overflow_mul-result : goal.overflow_mul-result
 overflow_mul-result c =
-    let o = order_in c.args.order in
-    let code = c.requires in
+    let o = order_in c.args.link.order in
+    let code = c.args.link.accepted in
     let few : 2 ^ o.v ≤ 2 ^ 8 = pow_mono code.small_memory in
     let some = states_le o in
-    let states = c.event_states-states.ensures in
+    let states = c.event_states.ensures in
     let most = few_steps o code in
-    let steps = c.steps_of-steps.ensures in
+    let steps = c.steps.ensures in
     record { fits = product_fits _ _ (omega arith) (omega arith) }
-
-pub returns : goal.returns
-returns c = ap₂ ◌*◌ c.event_states-states.ensures c.steps_of-steps.ensures

@@ -5,7 +5,4 @@ use Rattle.needed.proofs.Filling.{Underway}
 use Rattle.needed.proofs.tables.fill_row.Given as goal
 
 abbrev pub invariant-loop-q : goal.invariant-loop-q
-invariant-loop-q l = Underway l.q l.words l.initial.work l.work (row_from l.i l.t (l.words - l.q) l.q l.work) (row_from l.i l.t l.words 0 l.initial.work)
-
-abbrev pub decreases-loop-q : goal.decreases-loop-q
-decreases-loop-q l = l.words - l.q
+invariant-loop-q l = Underway l.work (row_from l.i l.t (l.words - l.q) l.q l.work) (row_from l.i l.t l.words 0 l.initial.work)

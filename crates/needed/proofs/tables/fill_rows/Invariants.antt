@@ -5,7 +5,4 @@ use Rattle.needed.proofs.Filling.{Underway}
 use Rattle.needed.proofs.tables.fill_rows.Given as goal
 
 abbrev pub invariant-loop-t : goal.invariant-loop-t
-invariant-loop-t l = Underway l.t l.rows l.initial.work l.work (rows_from l.i l.words (l.rows - l.t) l.t l.work) (rows_from l.i l.words l.rows 0 l.initial.work)
-
-abbrev pub decreases-loop-t : goal.decreases-loop-t
-decreases-loop-t l = l.rows - l.t
+invariant-loop-t l = Underway l.work (rows_from l.i l.words (l.rows - l.t) l.t l.work) (rows_from l.i l.words l.rows 0 l.initial.work)

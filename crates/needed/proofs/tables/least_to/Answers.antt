@@ -13,4 +13,4 @@ returns-then-s-i-2 c = least_below _ _ _ _ c.if-t-eq0.false c.if-s-i-2.true
 
 pub returns : goal.returns
 returns c =
-    least_found _ _ _ _ _ _ _ _ c.if-t-eq0.false c.if-s-i-2.false c.through-a.ensures c.through-b.ensures c.least.ensures c.least-2.ensures
+    least_found _ _ _ _ _ _ _ _ c.if-t-eq0.false c.if-s-i-2.false c.through-a.ensures c.through-b.ensures c.min.ensures c.min-2.ensures

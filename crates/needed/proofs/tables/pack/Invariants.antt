@@ -1,11 +1,8 @@
 -- The invariant: the bytes from the highest down to k are in the number.
 use mathlib.Core.Path.{◌≡◌}
-use Prim.Native.Nat.{◌+◌, ◌-◌, ◌*◌, ◌≤◌}
+use Prim.Native.Nat.{◌+◌, ◌-◌, ◌*◌}
 use Rattle.needed.specs.Model.Tables.{packed}
 use Rattle.needed.proofs.tables.pack.Given as goal
 
 abbrev pub invariant-loop-k : goal.invariant-loop-k
-invariant-loop-k l = (l.k ≤ 8) × (l.word ≡ packed l.work l.i l.t (8 - l.k) (l.q * 8 + l.k))
-
-abbrev pub decreases-loop-k : goal.decreases-loop-k
-decreases-loop-k l = l.k
+invariant-loop-k l = l.word ≡ packed l.work l.i l.t (8 - l.k) (l.q * 8 + l.k)

@@ -9,5 +9,5 @@ pub returns-then-j-lt64 : goal.returns-then-j-lt64
 unfolding bit
 returns-then-j-lt64 c = refl
 
-pub returns : goal.returns
-returns c = sym (bit_above _ 64 _ (omega arith) (omega arith))
+pub returns-else-j-lt64 : goal.returns-else-j-lt64
+returns-else-j-lt64 c = sym (bit_above _ 64 _ (omega arith) (omega arith))

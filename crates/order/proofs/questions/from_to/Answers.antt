@@ -1,9 +1,12 @@
--- Too small, or as the other end says.
-use Rattle.order.proofs.Answers.{too_small, not_too_small}
+use native.Mathlib.Omega.{arith}
+use Rattle.std.proofs.lemmas.Bool.Decides.{nat_tests}
+use Rattle.order.specs.Questions.{from_to}
 use Rattle.order.proofs.questions.from_to.Goals as goal
 
-pub returns-then-x-low : goal.returns-then-x-low
-returns-then-x-low c = too_small _ _ _ c.if-x-low.true
+pub returns-then-low-x : goal.returns-then-low-x
+unfolding from_to
+returns-then-low-x c = grind (arith, nat_tests)
 
-pub returns : goal.returns
-returns c = not_too_small _ _ _ c.if-x-low.false
+pub returns-else-low-x : goal.returns-else-low-x
+unfolding from_to
+returns-else-low-x c = grind (arith, nat_tests)

@@ -1,9 +1,13 @@
 -- Two tests, one after the other.
-use Rattle.order.proofs.Records.{length_none, length-told}
+use native.Mathlib.Omega.{arith}
+use Rattle.std.proofs.lemmas.Bool.Decides.{nat_tests}
+use Rattle.order.specs.Order.{length_right}
+use Rattle.order.proofs.Records.{length-told}
 use Rattle.order.proofs.record.length_right.Goals as goal
 
-pub returns-then-size-lt2 : goal.returns-then-size-lt2
-returns-then-size-lt2 c = length_none _ c.if-size-lt2.true
+pub returns-then-bytes-ge2 : goal.returns-then-bytes-ge2
+returns-then-bytes-ge2 c = length-told _ _ c.if-bytes-ge2.true c.two_at.ensures
 
-pub returns : goal.returns
-returns c = length-told _ _ c.if-size-lt2.false c.two_at.ensures
+pub returns-else-bytes-ge2 : goal.returns-else-bytes-ge2
+unfolding length_right
+returns-else-bytes-ge2 c = grind (arith, nat_tests)

@@ -1,13 +1,11 @@
 use mathlib.Core.Path.{refl, ◌∙◌}
-use native.Mathlib.Nat.{le_refl}
 use native.Mathlib.Omega.{arith}
 use Rattle.poly.proofs.Sum.{bit_lt}
-use Rattle.poly.proofs.Division.{divided_none, divided_by, divided_end, polynomial_small, remainder_in}
+use Rattle.poly.proofs.Division.{divided_none, divided_by, polynomial_small, remainder_in}
 use Rattle.poly.proofs.register.remainder_of.Goals as goal
 
 pub loop-i-init : goal.loop-i-init
-loop-i-init c =
-    record { within = le_refl _; same-degree = refl; same-polynomial = refl; so_far = divided_none _ _ _ _ c.requires.fits }
+loop-i-init c = record { same-degree = refl; same-polynomial = refl; so_far = divided_none _ _ _ _ c.requires.fits }
 
 pub take-r-requires : goal.take-r-requires
 take-r-requires c =
@@ -25,12 +23,4 @@ loop-i-preserved c =
     let l = c.loop-i.invariant in
     let t = c.take-r.ensures in
     let next = divided_by _ _ _ _ _ _ _ _ l.same-degree l.same-polynomial l.so_far c.bit_at.ensures (omega arith) in
-    record {
-      within = omega arith;
-      same-degree = t.0 ∙ l.same-degree;
-      same-polynomial = t.1 ∙ l.same-polynomial;
-      so_far = t.2 ∙ next;
-    }
-
-pub returns : goal.returns
-returns c = divided_end _ _ _ _ _ (omega arith) c.loop-i.invariant.so_far
+    record { same-degree = cc; same-polynomial = cc; so_far = t.2 ∙ next }
