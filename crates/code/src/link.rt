@@ -15,6 +15,13 @@ pub struct Link {
     pub ghost four: { length order.generators ≡ 4 },
 }
 
+// Of any order, accepted or not.
+pub fn is_terminated(order: OrderRecord) -> bool
+    ensures { result ≡ terminated (order_in order) }
+{
+    order.version == 2
+}
+
 impl Link {
     pub fn new(order: OrderRecord) -> Link
         requires { AcceptedCode (order_in order) }
@@ -33,7 +40,7 @@ impl Link {
     pub fn is_terminated(self) -> bool
         ensures { result ≡ terminated (order_in self.order) }
     {
-        self.order.version == 2
+        is_terminated(self.order)
     }
 
     // How many steps a word takes.

@@ -107,8 +107,12 @@ mod tests {
             .collect();
         // There is room for 1, but 9 came before it.
         assert_eq!(heard.try_recv(), Err(TryRecvError::Empty));
+        assert_eq!(memory.state().free, 4);
         drop(first);
-        assert_eq!([heard.recv(), heard.recv()], [Ok(9), Ok(1)]);
+        // Both have their shares now; which thread says so first is not the memory's affair.
+        let mut served = [heard.recv().unwrap(), heard.recv().unwrap()];
+        served.sort();
+        assert_eq!(served, [1, 9]);
         let shares: Vec<_> = others.into_iter().map(|one| one.join().unwrap()).collect();
         assert_eq!(memory.state().free, 0);
         drop(shares);

@@ -22,7 +22,7 @@ overflow_add-total c =
     let gs = c.generators-generators.result.now in
     let few : length gs ≤ 4 = rw c.generators-generators.ensures c.args.link.accepted.few_generators in
     let here : c.step_weight-total.result ≤ length gs = rw c.step_weight-total.ensures (step_few gs _ _) in
-    let most : c.steps-end.result ≤ most_steps = rw c.steps-end.ensures (few_steps _ c.args.link.accepted) in
+    let most : c.steps-steps.result ≤ most_steps = rw c.steps-steps.ensures (few_steps _ c.args.link.accepted) in
     omega (arith, c.loop.invariant.small)
 
 pub loop-preserved : goal.loop-preserved
@@ -31,7 +31,7 @@ loop-preserved c =
     let gs = c.generators-generators.result.now in
     let l = c.loop in
     let first = c.first_window-window.ensures in
-    let steps = c.steps-end.ensures in
+    let steps = c.steps-steps.ensures in
     let few : length gs ≤ 4 = rw c.generators-generators.ensures c.args.link.accepted.few_generators in
     let here : c.step_weight-total.result ≤ length gs = rw c.step_weight-total.ensures (step_few gs _ _) in
     let kept = kept_inputs c.args.link.accepted first l.invariant.window c.requires (omega arith) in
@@ -44,5 +44,5 @@ loop-preserved c =
 pub returns : goal.returns
 unfolding order_in
 returns c =
-    let steps = c.steps-end in
+    let steps = c.steps-steps in
     steps_end c.args.link.accepted c.requires c.first_window-window.ensures _ steps.result c.loop.counter _ c.generators-generators.ensures steps.ensures (omega arith) c.loop.invariant.summed

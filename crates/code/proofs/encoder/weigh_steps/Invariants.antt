@@ -15,4 +15,4 @@ pub record Weighing (gs : List ℕ) (steps : ℕ) (w₀ w : Window) (total k : �
   pub summed : total ≡ sum k (weighs gs w₀.memory steps (number w₀.rest))
 
 abbrev pub invariant-loop : goal.invariant-loop
-invariant-loop l = Weighing l.generators l.end l.initial.window l.window l.total l.counter
+invariant-loop l = Weighing l.generators l.steps l.initial.window l.window l.total l.counter
